@@ -1,0 +1,4 @@
+pub mod Write
+pub mod Part
+pub mod Numbers
+pub mod Equality

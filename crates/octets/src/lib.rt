@@ -1,0 +1,151 @@
+// Runs of bytes and numbers in bytes: what every layer reads, writes and compares with.
+ghost use mathlib.Core.Path.{_≡_};
+ghost use Prim.Native.Nat.{_+_, _*_, _≤_, _<_};
+ghost use lib.ListN.{length, replicate};
+ghost use Rattle.octets.specs.Numbers.{be, beBytes};
+ghost use Rattle.octets.specs.Runs.{part, write, equalBytes};
+
+// Two bytes as a number, high byte first.
+fn join16(a: u8, b: u8) -> u16
+    ensures { λ r. ⌜ r ≡ a * 256 + b ⌝ }
+{
+    a as u16 * 256 + b as u16
+}
+
+// Four bytes as a number, high byte first.
+fn join32(a: u8, b: u8, c: u8, d: u8) -> u32
+    ensures { λ r. ⌜ r ≡ ((a * 256 + b) * 256 + c) * 256 + d ⌝ }
+{
+    ((a as u32 * 256 + b as u32) * 256 + c as u32) * 256 + d as u32
+}
+
+// The number in the two bytes of s from place at on.
+pub fn be16(s: &[u8], at: usize) -> u16
+    requires { ⌜ at + 2 ≤ length (now s) ⌝ }
+    ensures { λ r. ⌜ r ≡ be at 2 (now (s .entry)) ⌝ }
+{
+    join16(s[at], s[at + 1])
+}
+
+// The number in the four bytes of s from place at on: all 32 bits.
+pub fn be32(s: &[u8], at: usize) -> u32
+    requires { ⌜ at + 4 ≤ length (now s) ⌝ }
+    ensures { λ r. ⌜ r ≡ be at 4 (now (s .entry)) ⌝ }
+{
+    join32(s[at], s[at + 1], s[at + 2], s[at + 3])
+}
+
+// Writes v in two bytes.
+pub fn put_be16(t: &mut [u8], at: usize, v: u16)
+    requires { ⌜ at + 2 ≤ length (now t) ⌝ }
+    ensures { λ _. ⌜ now (t .exit) ≡ write (now (t .entry)) at (beBytes 2 v) ⌝ }
+{
+    let high = v / 256;
+    t[at] = (high % 256) as u8;
+    t[at + 1] = (v % 256) as u8;
+}
+
+// Writes v in four bytes: all 32 bits.
+pub fn put_be32(t: &mut [u8], at: usize, v: u32)
+    requires { ⌜ at + 4 ≤ length (now t) ⌝ }
+    ensures { λ _. ⌜ now (t .exit) ≡ write (now (t .entry)) at (beBytes 4 v) ⌝ }
+{
+    let v1 = v / 256;
+    let v2 = v1 / 256;
+    let v3 = v2 / 256;
+    t[at] = (v3 % 256) as u8;
+    t[at + 1] = (v2 % 256) as u8;
+    t[at + 2] = (v1 % 256) as u8;
+    t[at + 3] = (v % 256) as u8;
+}
+
+// Eight bytes of v from place j on, to place at of t. All are read before the first is written, so that they go as one word.
+fn copy8(t: &mut [u8], at: usize, v: &[u8], j: usize)
+    requires { ⌜ (at + 8 ≤ length (now t)) × (j + 8 ≤ length (now v)) ⌝ }
+    ensures { λ _. ⌜ now (t .exit) ≡ write (now (t .entry)) at (part j 8 (now (v .entry))) ⌝ }
+{
+    let x0 = v[j];
+    let x1 = v[j + 1];
+    let x2 = v[j + 2];
+    let x3 = v[j + 3];
+    let x4 = v[j + 4];
+    let x5 = v[j + 5];
+    let x6 = v[j + 6];
+    let x7 = v[j + 7];
+    t[at] = x0;
+    t[at + 1] = x1;
+    t[at + 2] = x2;
+    t[at + 3] = x3;
+    t[at + 4] = x4;
+    t[at + 5] = x5;
+    t[at + 6] = x6;
+    t[at + 7] = x7;
+}
+
+// Copies v to place at of t, byte by byte.
+fn copy_bytes(t: &mut [u8], at: usize, v: &[u8])
+    requires { ⌜ at + length (now v) ≤ length (now t) ⌝ }
+    ensures { λ _. ⌜ now (t .exit) ≡ write (now (t .entry)) at (now (v .entry)) ⌝ }
+{
+    let mut j = 0;
+    while j < v.len() {
+        t[at + j] = v[j];
+        j += 1;
+    }
+}
+
+// Copies v to place at of t.
+pub fn copy(t: &mut [u8], at: usize, v: &[u8])
+    requires { ⌜ at + length (now v) ≤ length (now t) ⌝ }
+    ensures { λ _. ⌜ now (t .exit) ≡ write (now (t .entry)) at (now (v .entry)) ⌝ }
+{
+    let mut j = 0;
+    while 8 <= v.len() - j {
+        copy8(&mut *t, at + j, v, j);
+        j += 8;
+    }
+    copy_bytes(t, at + j, &v[j..]);
+}
+
+// Writes n bytes x from place at of t on.
+pub fn fill(t: &mut [u8], at: usize, n: usize, x: u8)
+    requires { ⌜ at + n ≤ length (now t) ⌝ }
+    ensures { λ _. ⌜ now (t .exit) ≡ write (now (t .entry)) at (replicate n x) ⌝ }
+{
+    let mut j = 0;
+    while j < n {
+        t[at + j] = x;
+        j += 1;
+    }
+}
+
+// Whether a and b are the same bytes. It returns at the first difference: not for secrets.
+pub fn equal(a: &[u8], b: &[u8]) -> bool
+    ensures { λ r. ⌜ r ≡ equalBytes (now (a .entry)) (now (b .entry)) ⌝ }
+{
+    if a.len() != b.len() {
+        return false;
+    }
+    let mut i = 0;
+    while i < a.len() {
+        if a[i] != b[i] {
+            return false;
+        }
+        i += 1;
+    }
+    true
+}
+
+// Whether 16 bytes of a and 16 of b are the same. It looks at all of them, wherever they differ: for authenticators.
+pub fn equal16(a: &[u8], at: usize, b: &[u8], place: usize) -> bool
+    requires { ⌜ (at + 16 ≤ length (now a)) × (place + 16 ≤ length (now b)) ⌝ }
+    ensures { λ r. ⌜ r ≡ equalBytes (part at 16 (now (a .entry))) (part place 16 (now (b .entry))) ⌝ }
+{
+    let mut d: u8 = 0;
+    let mut i = 0;
+    while i < 16 {
+        d = d | (a[at + i] ^ b[place + i]);
+        i += 1;
+    }
+    d == 0
+}
