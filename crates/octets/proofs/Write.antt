@@ -6,8 +6,8 @@ use Prim.Native.Nat.{ℕ, zero, suc, _+_, _-_, _≤_, _<_}
 use native.Mathlib.Nat.{add-zero, zero-add, add-suc, suc-add, le-antisymm}
 use native.Mathlib.Numerals.{add-one, towards-suc}
 use native.Mathlib.Omega.{arith}
-use lib.ListN.{length, getD, take, drop, set, replicate, length-set, length-replicate}
-use lib.Seq.{drop-cons, take-all, take-length, take-suc, take-add, drop-length, sets, length-sets, sets-eq, length-take-le, getD-set-same, getD-set-other}
+use lib.ListN.{length, length-append, getD, take, drop, set, replicate, length-set, length-replicate}
+use lib.Seq.{drop-cons, take-at, take-all, take-length, take-suc, take-add, drop-length, sets, length-sets, sets-eq, length-take-le, getD-set-same, getD-set-other}
 use Rattle.octets.specs.Runs.{part, write}
 
 pub length-write : (l : List ℕ) (i : ℕ) (vs : List ℕ) → length (write l i vs) ≡ length l
@@ -39,6 +39,10 @@ pub write-append : (l : List ℕ) (i : ℕ) (vs ws : List ℕ) → write l i (vs
 unfolding write
 write-append l i vs ws = sets-append vs ws l i
 
+-- a second write, where the first ended
+pub write-then : (t t′ l : List ℕ) (i j : ℕ) (vs ws : List ℕ) → t ≡ write l i vs → t′ ≡ write t j ws → j ≡ i + length vs → t′ ≡ write l i (vs ++ ws)
+write-then t t′ l i j vs ws e g h = g ∙ rw (e, h) (sym (write-append l i vs ws))
+
 -- a write of the whole list
 pub write-whole : (l vs : List ℕ) → length vs ≡ length l → write l 0 vs ≡ vs
 unfolding write
@@ -48,6 +52,16 @@ write-whole l vs e = sets-eq vs l 0 (omega arith) ∙ rw (zero-add, e, drop-leng
 pub write-eq : (l : List ℕ) (i : ℕ) (vs : List ℕ) → i + length vs ≤ length l → write l i vs ≡ take i l ++ vs ++ drop (i + length vs) l
 unfolding write
 write-eq l i vs h = sets-eq vs l i h
+
+-- a write to the end of the list
+pub write-end : (t l : List ℕ) (i : ℕ) (vs : List ℕ) → t ≡ write l i vs → i + length vs ≡ length l → t ≡ take i l ++ vs
+write-end t l i vs e h = e ∙ write-eq l i vs (omega arith) ∙ rw (h, drop-length, append-nil)
+
+-- up to the end of what was written
+pub take-write : (l : List ℕ) (i : ℕ) (vs : List ℕ) → i + length vs ≤ length l → take (i + length vs) (write l i vs) ≡ take i l ++ vs
+take-write l i vs h =
+    let long : length (take i l ++ vs) ≡ i + length vs = rw (length-append, length-take-le i l (omega arith)) in
+    rw (write-eq l i vs h) (take-at (take i l ++ vs) (drop (i + length vs) l) (i + length vs) long)
 
 -- ---- a loop that copies v to place i of l: t is what it has made of l
 
