@@ -5,8 +5,8 @@ use mathlib.Core.List.{List, [], _∷_, _++_}
 use Prim.Native.Nat.{ℕ, zero, suc, _+_, _-_, _≤_, _<_}
 use native.Mathlib.Nat.{add-suc, add-zero}
 use native.Mathlib.Omega.{arith}
-use lib.ListN.{length, getD, take, drop, set, length-take, length-drop}
-use lib.Seq.{sets, take-all, take-take, drop-drop, take-add, getD-take, getD-drop, take-set-le, take-set-lt, drop-set-lt, drop-set-add}
+use lib.ListN.{length, getD, take, drop, set, length-take, length-drop, drop-of-length-le}
+use lib.Seq.{sets, take-nil, take-all, take-take, drop-drop, take-add, getD-take, getD-drop, take-set-le, take-set-lt, drop-set-lt, drop-set-add}
 use Rattle.octets.specs.Runs.{part, write}
 use Rattle.octets.proofs.Write.{write-whole, length-write}
 
@@ -27,6 +27,15 @@ part-of i n l = let e : i + n - i ≡ n = omega arith in rw e
 pub part-to : (i e : ℕ) (l : List ℕ) → take (e - i) (drop i l) ≡ part i (e - i) l
 unfolding part
 part-to i e l = refl
+
+-- a part behind the end, and one that the list ends in
+pub part-past : (i n : ℕ) (l : List ℕ) → length l ≤ i → take 0 l ≡ part i n l
+unfolding part
+part-past i n l h = rw (drop-of-length-le l h) (sym (take-nil n))
+
+pub part-rest : (i n : ℕ) (l : List ℕ) → length l - i ≤ n → take (length l - i) (drop i l) ≡ part i n l
+unfolding part
+part-rest i n l h = take-all (length l - i) (drop i l) (simp length-drop (omega arith)) ∙ sym (take-all n (drop i l) (simp length-drop h))
 
 pub part-whole : (l : List ℕ) → part 0 (length l) l ≡ l
 unfolding part

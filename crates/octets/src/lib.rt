@@ -59,6 +59,19 @@ pub fn put_be32(t: &mut [u8], at: usize, v: u32)
     t[at + 3] = (v % 256) as u8;
 }
 
+// The n bytes of s from place at on, as the part of s that they are; as many as there are where s ends before.
+pub fn slice(s: &[u8], at: usize, n: usize) -> &[u8]
+    ensures { λ r. ⌜ now r ≡ part at n (now (s .entry)) ⌝ }
+{
+    if s.len() <= at {
+        return &s[..0];
+    }
+    if s.len() - at <= n {
+        return &s[at..];
+    }
+    &s[at..at + n]
+}
+
 // Eight bytes of v from place j on, to place at of t. All are read before the first is written, so that they go as one word.
 fn copy8(t: &mut [u8], at: usize, v: &[u8], j: usize)
     requires { ⌜ (at + 8 ≤ length (now t)) × (j + 8 ≤ length (now v)) ⌝ }
