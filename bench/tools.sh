@@ -10,10 +10,10 @@ missing() {
     echo '#include <openssl/md5.h>' | gcc -E - >/dev/null 2>&1 || echo libssl-dev
 }
 
-packages=$(missing | tr '\n' ' ')
+packages=$(missing | xargs)
 [ -n "$packages" ] || exit 0
 echo "bench: not here, so installed now by apt-get: $packages"
 # shellcheck disable=SC2086 # one word to a package
 { apt-get update -qq && apt-get install -y -qq $packages; } >&2
-packages=$(missing | tr '\n' ' ')
+packages=$(missing | xargs)
 [ -z "$packages" ] || { echo "bench: cannot install $packages; install by hand, and run again" >&2; exit 1; }
