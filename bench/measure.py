@@ -1,0 +1,67 @@
+"""Measures the proved code beside OpenSSL and plain C: python3 bench/measure.py BENCH. Fails where a target is missed."""
+import re
+import subprocess
+import sys
+
+# The most instructions that the proved code may take, as a multiple of OpenSSL's.
+TARGETS = {
+    ("MD5", 64): 1.05,
+    ("MD5", 4096): 1.05,
+}
+
+CASES = [(what, size) for what in ("MD5", "HMAC") for size in (64, 1024, 4096)]
+WHO = ("proved", "openssl", "plain")
+FEW, MANY = 10, 60  # calls in the two counts; their difference is of calls alone, with no start of the program
+
+
+def instructions(bench, who, what, size):
+    """Of one call."""
+    few, many = (collected([bench, "count", who, what, str(size), str(runs)]) for runs in (FEW, MANY))
+    return (many - few) / (MANY - FEW)
+
+
+def collected(command):
+    callgrind = ["valgrind", "--tool=callgrind", "--callgrind-out-file=/dev/null"]
+    run = subprocess.run(callgrind + command, capture_output=True, text=True)
+    found = re.search(r"Collected : (\d+)", run.stderr)
+    if run.returncode != 0 or not found:
+        sys.exit(f"bench: no count of {' '.join(command)}\n{run.stderr}")
+    return int(found[1])
+
+
+def nanoseconds(bench):
+    """Of one call, by case and who."""
+    run = subprocess.run([bench, "time"], stdout=subprocess.PIPE, text=True)
+    if run.returncode != 0:
+        sys.exit("bench: no times")
+    times = {}
+    for line in run.stdout.splitlines():
+        who, what, size, time = line.split()
+        times[what, int(size), who] = float(time)
+    return times
+
+
+def main():
+    bench = sys.argv[1]
+    times = nanoseconds(bench)
+    print("                     instructions for one call                        nanoseconds, best of many")
+    print("             proved  OpenSSL  plain C  ratio  target          proved  OpenSSL  plain C  ratio")
+    missed = []
+    for what, size in CASES:
+        counts = [instructions(bench, who, what, size) for who in WHO]
+        spans = [times[what, size, who] for who in WHO]
+        ratio, target = counts[0] / counts[1], TARGETS.get((what, size))
+        row = f"{what:5}{size:5,}" + "".join(f"{count:9,.0f}" for count in counts) + f"{ratio:7.3f}"
+        row += f"{target:8.2f}" if target else " " * 8
+        row += " " * 7 + "".join(f"{span:9,.0f}" for span in spans) + f"{spans[0] / spans[1]:7.2f}"
+        print(row, flush=True)
+        if target and ratio > target:
+            missed.append(f"{what} of {size:,} bytes takes {ratio:.3f} times OpenSSL's instructions, the target is {target:.2f}")
+    print("The ratios are to OpenSSL.")
+    for line in missed:
+        print("missed:", line)
+    print("failed: a target is missed" if missed else "every target is met")
+    return 1 if missed else 0
+
+
+sys.exit(main())

@@ -1,0 +1,60 @@
+"""The proved functions, as C sees them."""
+import ctypes
+import sys
+
+from fence import Room
+
+BYTES = [ctypes.c_void_p, ctypes.c_size_t]  # a Rattle `&[u8]` is a pointer and a length
+SIZE, U32, U8 = [ctypes.c_size_t], [ctypes.c_uint32], [ctypes.c_uint8]
+POINTER = [ctypes.c_void_p]
+
+SIGNATURES = {
+    "md5": BYTES + BYTES,
+    "md5_cut": BYTES + SIZE + SIZE + BYTES,
+    "hmac": BYTES + BYTES + BYTES,
+    "hmac_cut": BYTES + BYTES + SIZE + SIZE + BYTES,
+    "equal": BYTES + BYTES,
+    "equal16": BYTES + BYTES,
+    "number": BYTES + SIZE + U32 + POINTER,
+    "put": BYTES + SIZE + U32 + U32,
+    "copy": BYTES + SIZE + BYTES,
+    "fill": BYTES + SIZE + SIZE + U8,
+}
+
+NULL = None  # a run of no bytes that lies nowhere
+
+
+class Cell(bytes):
+    """A uint32_t that C writes to: a pointer with no length."""
+
+
+def cell(value):
+    return Cell(value.to_bytes(4, sys.byteorder))
+
+
+class Probe:
+    def __init__(self, path):
+        library = ctypes.CDLL(path)
+        self.functions = {}
+        for name, words in SIGNATURES.items():
+            function = library["probe_" + name]
+            function.argtypes, function.restype = words, ctypes.c_uint32
+            self.functions[name] = function
+        self.rooms = [Room() for _ in range(max(map(len, SIGNATURES.values())))]
+
+    def __call__(self, name, *arguments):
+        """What probe_NAME returns, and then each run of bytes as it is after the call, read or written."""
+        words, laid = [], []
+        for room, argument in zip(self.rooms, arguments):
+            if argument is NULL:
+                words += [None, 0]
+            elif isinstance(argument, Cell):
+                words.append(room.lay(argument))
+                laid.append((room, len(argument)))
+            elif isinstance(argument, bytes):
+                words += [room.lay(argument), len(argument)]
+                laid.append((room, len(argument)))
+            else:
+                words.append(argument)
+        status = self.functions[name](*words)
+        return (status, *[room.found(length) for room, length in laid])
