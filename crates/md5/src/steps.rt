@@ -1,0 +1,69 @@
+// The operations of RFC 1321, 3.4, one at a time and by fours. Every call has a number in i, so that no test of it is left when compiled.
+ghost use mathlib.Core.Path.{_≡_};
+ghost use Prim.Native.Nat.{ℕ, _+_, _<_};
+ghost use lib.ListN.{length};
+ghost use Rattle.md5.specs.declared.State.{State};
+ghost use Rattle.md5.specs.Md5.{mix, indexIn, turn, step};
+ghost use Rattle.md5.specs.Steps.{Entry, stepsFrom};
+use super::State;
+use super::words;
+
+// F, G, H or I, by rounds. F and G are written with one operation less than in the definition.
+fn mix(k: usize, b: u32, c: u32, d: u32) -> u32
+    ensures { λ r. ⌜ r ≡ mix k b c d ⌝ }
+{
+    match k {
+        0 => d ^ (b & (c ^ d)),
+        1 => c ^ (d & (b ^ c)),
+        2 => b ^ (c ^ d),
+        _ => c ^ (b | !d),
+    }
+}
+
+// The word of the block that operation i takes, by rounds.
+fn index_in(k: usize, i: usize) -> usize
+    requires { ⌜ i < 64 ⌝ }
+    ensures { λ r. ⌜ (r ≡ indexIn k i) × (r < 16) ⌝ }
+{
+    match k {
+        0 => i % 16,
+        1 => (5 * i + 1) % 16,
+        2 => (3 * i + 5) % 16,
+        _ => 7 * i % 16,
+    }
+}
+
+// b + ((a + f + x + t) <<< s), and the words move on.
+fn turn(q: State, f: u32, x: u32, t: u32, s: u32) -> State
+    requires { ⌜ (0 < s) × (s < 32) ⌝ }
+    ensures { λ r. ⌜ r ≡ turn q f x t s ⌝ }
+{
+    let y = ((q.a as u64 + f as u64 + x as u64 + t as u64) % 0x1_0000_0000) as u32;
+    State {
+        a: q.d,
+        b: words::add(q.b, words::rotl(y, s)),
+        c: q.b,
+        d: q.c,
+    }
+}
+
+// Operation i, with its entries of the two tables.
+fn step(q: State, m: &[u8], i: usize, s: u32, t: u32) -> State
+    requires { ⌜ (length (now m) ≡ 64) × (i < 64) × Entry i s t ⌝ }
+    ensures { λ r. ⌜ r ≡ step (now (m .entry)) i q ⌝ }
+{
+    let f = mix(i / 16, q.b, q.c, q.d);
+    let x = words::word_at(m, index_in(i / 16, i));
+    turn(q, f, x, t, s)
+}
+
+// Operations i to i + 3.
+pub(crate) fn four(q: State, m: &[u8], i: usize, s0: u32, s1: u32, s2: u32, s3: u32, t0: u32, t1: u32, t2: u32, t3: u32) -> State
+    requires { ⌜ (length (now m) ≡ 64) × (i < 61) × Entry i s0 t0 × Entry (i + 1) s1 t1 × Entry (i + 2) s2 t2 × Entry (i + 3) s3 t3 ⌝ }
+    ensures { λ r. ⌜ r ≡ stepsFrom (now (m .entry)) i 4 q ⌝ }
+{
+    let r = step(q, m, i, s0, t0);
+    let r = step(r, m, i + 1, s1, t1);
+    let r = step(r, m, i + 2, s2, t2);
+    step(r, m, i + 3, s3, t3)
+}
