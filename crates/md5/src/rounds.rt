@@ -1,48 +1,66 @@
-// The four rounds of RFC 1321, 3.4: four operations a line, with their rotations and their entries of T.
+// The four rounds of RFC 1321, 3.4. Numbers stand in every call, so that no table is read and no test of i is left when compiled.
 ghost use mathlib.Core.Path.{_≡_};
-ghost use Prim.Native.Nat.{ℕ};
+ghost use Prim.Native.Nat.{ℕ, _+_, _<_};
 ghost use lib.ListN.{length};
 ghost use Rattle.md5.specs.declared.State.{State};
-ghost use Rattle.md5.specs.Steps.{stepsFrom};
+ghost use Rattle.md5.specs.Steps.{Entry, stepsFrom};
 use super::State;
-use super::steps::four;
+use super::steps::step;
+
+// The rotations of a round.
+struct Shifts(u32, u32, u32, u32);
+
+// Operations i to i + 3, with their constants.
+fn four(q: State, m: &[u8], i: usize, s: Shifts, t0: u32, t1: u32, t2: u32, t3: u32) -> State
+    requires { ⌜ (length (now m) ≡ 64) × (i < 61) × Entry i (s .0) t0 × Entry (i + 1) (s .1) t1 × Entry (i + 2) (s .2) t2 × Entry (i + 3) (s .3) t3 ⌝ }
+    ensures { λ r. ⌜ r ≡ stepsFrom (now (m .entry)) i 4 q ⌝ }
+{
+    let r = step(q, m, i, s.0, t0);
+    let r = step(r, m, i + 1, s.1, t1);
+    let r = step(r, m, i + 2, s.2, t2);
+    step(r, m, i + 3, s.3, t3)
+}
 
 pub(crate) fn first(q: State, m: &[u8]) -> State
     requires { ⌜ length (now m) ≡ 64 ⌝ }
     ensures { λ r. ⌜ r ≡ stepsFrom (now (m .entry)) 0 16 q ⌝ }
 {
-    let r = four(q, m, 0, 7, 12, 17, 22, 0xd76a_a478, 0xe8c7_b756, 0x2420_70db, 0xc1bd_ceee);
-    let r = four(r, m, 4, 7, 12, 17, 22, 0xf57c_0faf, 0x4787_c62a, 0xa830_4613, 0xfd46_9501);
-    let r = four(r, m, 8, 7, 12, 17, 22, 0x6980_98d8, 0x8b44_f7af, 0xffff_5bb1, 0x895c_d7be);
-    four(r, m, 12, 7, 12, 17, 22, 0x6b90_1122, 0xfd98_7193, 0xa679_438e, 0x49b4_0821)
+    let s = Shifts(7, 12, 17, 22);
+    let r = four(q, m, 0, s, 0xd76aa478, 0xe8c7b756, 0x242070db, 0xc1bdceee);
+    let r = four(r, m, 4, s, 0xf57c0faf, 0x4787c62a, 0xa8304613, 0xfd469501);
+    let r = four(r, m, 8, s, 0x698098d8, 0x8b44f7af, 0xffff5bb1, 0x895cd7be);
+    four(r, m, 12, s, 0x6b901122, 0xfd987193, 0xa679438e, 0x49b40821)
 }
 
 pub(crate) fn second(q: State, m: &[u8]) -> State
     requires { ⌜ length (now m) ≡ 64 ⌝ }
     ensures { λ r. ⌜ r ≡ stepsFrom (now (m .entry)) 16 16 q ⌝ }
 {
-    let r = four(q, m, 16, 5, 9, 14, 20, 0xf61e_2562, 0xc040_b340, 0x265e_5a51, 0xe9b6_c7aa);
-    let r = four(r, m, 20, 5, 9, 14, 20, 0xd62f_105d, 0x0244_1453, 0xd8a1_e681, 0xe7d3_fbc8);
-    let r = four(r, m, 24, 5, 9, 14, 20, 0x21e1_cde6, 0xc337_07d6, 0xf4d5_0d87, 0x455a_14ed);
-    four(r, m, 28, 5, 9, 14, 20, 0xa9e3_e905, 0xfcef_a3f8, 0x676f_02d9, 0x8d2a_4c8a)
+    let s = Shifts(5, 9, 14, 20);
+    let r = four(q, m, 16, s, 0xf61e2562, 0xc040b340, 0x265e5a51, 0xe9b6c7aa);
+    let r = four(r, m, 20, s, 0xd62f105d, 0x02441453, 0xd8a1e681, 0xe7d3fbc8);
+    let r = four(r, m, 24, s, 0x21e1cde6, 0xc33707d6, 0xf4d50d87, 0x455a14ed);
+    four(r, m, 28, s, 0xa9e3e905, 0xfcefa3f8, 0x676f02d9, 0x8d2a4c8a)
 }
 
 pub(crate) fn third(q: State, m: &[u8]) -> State
     requires { ⌜ length (now m) ≡ 64 ⌝ }
     ensures { λ r. ⌜ r ≡ stepsFrom (now (m .entry)) 32 16 q ⌝ }
 {
-    let r = four(q, m, 32, 4, 11, 16, 23, 0xfffa_3942, 0x8771_f681, 0x6d9d_6122, 0xfde5_380c);
-    let r = four(r, m, 36, 4, 11, 16, 23, 0xa4be_ea44, 0x4bde_cfa9, 0xf6bb_4b60, 0xbebf_bc70);
-    let r = four(r, m, 40, 4, 11, 16, 23, 0x289b_7ec6, 0xeaa1_27fa, 0xd4ef_3085, 0x0488_1d05);
-    four(r, m, 44, 4, 11, 16, 23, 0xd9d4_d039, 0xe6db_99e5, 0x1fa2_7cf8, 0xc4ac_5665)
+    let s = Shifts(4, 11, 16, 23);
+    let r = four(q, m, 32, s, 0xfffa3942, 0x8771f681, 0x6d9d6122, 0xfde5380c);
+    let r = four(r, m, 36, s, 0xa4beea44, 0x4bdecfa9, 0xf6bb4b60, 0xbebfbc70);
+    let r = four(r, m, 40, s, 0x289b7ec6, 0xeaa127fa, 0xd4ef3085, 0x04881d05);
+    four(r, m, 44, s, 0xd9d4d039, 0xe6db99e5, 0x1fa27cf8, 0xc4ac5665)
 }
 
 pub(crate) fn fourth(q: State, m: &[u8]) -> State
     requires { ⌜ length (now m) ≡ 64 ⌝ }
     ensures { λ r. ⌜ r ≡ stepsFrom (now (m .entry)) 48 16 q ⌝ }
 {
-    let r = four(q, m, 48, 6, 10, 15, 21, 0xf429_2244, 0x432a_ff97, 0xab94_23a7, 0xfc93_a039);
-    let r = four(r, m, 52, 6, 10, 15, 21, 0x655b_59c3, 0x8f0c_cc92, 0xffef_f47d, 0x8584_5dd1);
-    let r = four(r, m, 56, 6, 10, 15, 21, 0x6fa8_7e4f, 0xfe2c_e6e0, 0xa301_4314, 0x4e08_11a1);
-    four(r, m, 60, 6, 10, 15, 21, 0xf753_7e82, 0xbd3a_f235, 0x2ad7_d2bb, 0xeb86_d391)
+    let s = Shifts(6, 10, 15, 21);
+    let r = four(q, m, 48, s, 0xf4292244, 0x432aff97, 0xab9423a7, 0xfc93a039);
+    let r = four(r, m, 52, s, 0x655b59c3, 0x8f0ccc92, 0xffeff47d, 0x85845dd1);
+    let r = four(r, m, 56, s, 0x6fa87e4f, 0xfe2ce6e0, 0xa3014314, 0x4e0811a1);
+    four(r, m, 60, s, 0xf7537e82, 0xbd3af235, 0x2ad7d2bb, 0xeb86d391)
 }

@@ -1,10 +1,10 @@
-// The operations of RFC 1321, 3.4, one at a time and by fours. Every call has a number in i, so that no test of it is left when compiled.
+// An operation of RFC 1321, 3.4, for all rounds.
 ghost use mathlib.Core.Path.{_≡_};
-ghost use Prim.Native.Nat.{ℕ, _+_, _<_};
+ghost use Prim.Native.Nat.{ℕ, _<_};
 ghost use lib.ListN.{length};
 ghost use Rattle.md5.specs.declared.State.{State};
 ghost use Rattle.md5.specs.Md5.{mix, indexIn, turn, step};
-ghost use Rattle.md5.specs.Steps.{Entry, stepsFrom};
+ghost use Rattle.md5.specs.Steps.{Entry};
 use super::State;
 use super::words;
 
@@ -48,22 +48,11 @@ fn turn(q: State, f: u32, x: u32, t: u32, s: u32) -> State
 }
 
 // Operation i, with its entries of the two tables.
-fn step(q: State, m: &[u8], i: usize, s: u32, t: u32) -> State
+pub(crate) fn step(q: State, m: &[u8], i: usize, s: u32, t: u32) -> State
     requires { ⌜ (length (now m) ≡ 64) × (i < 64) × Entry i s t ⌝ }
     ensures { λ r. ⌜ r ≡ step (now (m .entry)) i q ⌝ }
 {
     let f = mix(i / 16, q.b, q.c, q.d);
     let x = words::word_at(m, index_in(i / 16, i));
     turn(q, f, x, t, s)
-}
-
-// Operations i to i + 3.
-pub(crate) fn four(q: State, m: &[u8], i: usize, s0: u32, s1: u32, s2: u32, s3: u32, t0: u32, t1: u32, t2: u32, t3: u32) -> State
-    requires { ⌜ (length (now m) ≡ 64) × (i < 61) × Entry i s0 t0 × Entry (i + 1) s1 t1 × Entry (i + 2) s2 t2 × Entry (i + 3) s3 t3 ⌝ }
-    ensures { λ r. ⌜ r ≡ stepsFrom (now (m .entry)) i 4 q ⌝ }
-{
-    let r = step(q, m, i, s0, t0);
-    let r = step(r, m, i + 1, s1, t1);
-    let r = step(r, m, i + 2, s2, t2);
-    step(r, m, i + 3, s3, t3)
 }

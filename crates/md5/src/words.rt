@@ -11,12 +11,13 @@ pub(crate) fn add(x: u32, y: u32) -> u32
     ((x as u64 + y as u64) % 0x1_0000_0000) as u32
 }
 
-// x turned left by s bits. A function of its own, so that the compiler sees one instruction.
+// x turned left by s bits. By the remainder the compiler sees that this is one instruction, whatever s is.
 pub(crate) fn rotl(x: u32, s: u32) -> u32
     requires { ⌜ (0 < s) × (s < 32) ⌝ }
     ensures { λ r. ⌜ r ≡ rotl x s ⌝ }
 {
-    (x << s) | (x >> (32 - s))
+    let n = s % 32;
+    (x << n) | (x >> (32 - n))
 }
 
 // Four bytes as a word, the low-order byte first.

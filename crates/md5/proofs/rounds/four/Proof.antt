@@ -1,8 +1,8 @@
--- `md5::steps::four` meets its contract: its operations follow one another. Assumes nothing.
+-- `md5::rounds::four` meets its contract: its operations follow one another. Assumes nothing.
 use borrow.Author.Needs.{needs}
 use Rattle.md5.proofs.Chain.{in-four}
-use Rattle.md5.proofs.steps.four.Statement.{statement}
-use Rattle.md5.proofs.steps.four.Tie as tie
+use Rattle.md5.proofs.rounds.four.Statement.{statement}
+use Rattle.md5.proofs.rounds.four.Tie as tie
 
 pub four-spec : {M : Type 1} → statement M
 four-spec =
