@@ -1,11 +1,11 @@
 -- Operations one after the other: by fours, by rounds and all 64. Each chain of results is the definition's recursion, taken in parts.
 -- Assumes nothing.
-use mathlib.Core.Path.{_≡_, refl}
+use mathlib.Core.Path.{_≡_}
 use mathlib.Core.List.{List}
-use Prim.Native.Nat.{ℕ, zero, suc, _+_, _*_, _/_}
+use Prim.Native.Nat.{ℕ, zero, suc, _+_, _/_}
 use native.Mathlib.Nat.{add-zero, add-suc, add-assoc}
 use Rattle.md5.specs.declared.State.{State}
-use Rattle.md5.specs.Md5.{mix, indexIn, wordAt, turn, step, steps, addState, md5Block}
+use Rattle.md5.specs.Md5.{mix, indexIn, wordAt, turn, step, addState, md5Block}
 use Rattle.md5.specs.Steps.{Entry, stepsFrom}
 
 -- an operation, from the results of its parts

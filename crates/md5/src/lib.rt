@@ -4,9 +4,8 @@ mod steps; // steps.rt: one operation of the 64
 mod rounds; // rounds.rt: the four rounds, with their constants
 
 ghost use mathlib.Core.Path.{_≡_};
-ghost use Prim.Native.Nat.{ℕ, _/_};
+ghost use Prim.Native.Nat.{_/_};
 ghost use lib.ListN.{length};
-ghost use Rattle.md5.specs.declared.State.{State};
 ghost use Rattle.md5.specs.Md5.{initial, addState, md5Block, after};
 
 // The chaining words A, B, C and D.

@@ -1,8 +1,7 @@
 // The four rounds of RFC 1321, 3.4. Numbers stand in every call, so that no table is read and no test of i is left when compiled.
 ghost use mathlib.Core.Path.{_≡_};
-ghost use Prim.Native.Nat.{ℕ, _+_, _<_};
+ghost use Prim.Native.Nat.{_+_, _<_};
 ghost use lib.ListN.{length};
-ghost use Rattle.md5.specs.declared.State.{State};
 ghost use Rattle.md5.specs.Steps.{Entry, stepsFrom};
 use super::State;
 use super::steps::step;
@@ -12,7 +11,8 @@ struct Shifts(u32, u32, u32, u32);
 
 // Operations i to i + 3, with their constants.
 fn four(q: State, m: &[u8], i: usize, s: Shifts, t0: u32, t1: u32, t2: u32, t3: u32) -> State
-    requires { ⌜ (length (now m) ≡ 64) × (i < 61) × Entry i (s .0) t0 × Entry (i + 1) (s .1) t1 × Entry (i + 2) (s .2) t2 × Entry (i + 3) (s .3) t3 ⌝ }
+    requires { ⌜ (length (now m) ≡ 64) × (i < 61) ⌝ }
+    requires { ⌜ Entry i (s .0) t0 × Entry (i + 1) (s .1) t1 × Entry (i + 2) (s .2) t2 × Entry (i + 3) (s .3) t3 ⌝ }
     ensures { λ r. ⌜ r ≡ stepsFrom (now (m .entry)) i 4 q ⌝ }
 {
     let r = step(q, m, i, s.0, t0);
@@ -21,6 +21,7 @@ fn four(q: State, m: &[u8], i: usize, s: Shifts, t0: u32, t1: u32, t2: u32, t3: 
     step(r, m, i + 3, s.3, t3)
 }
 
+// Round 1, with F.
 pub(crate) fn first(q: State, m: &[u8]) -> State
     requires { ⌜ length (now m) ≡ 64 ⌝ }
     ensures { λ r. ⌜ r ≡ stepsFrom (now (m .entry)) 0 16 q ⌝ }
@@ -32,6 +33,7 @@ pub(crate) fn first(q: State, m: &[u8]) -> State
     four(r, m, 12, s, 0x6b901122, 0xfd987193, 0xa679438e, 0x49b40821)
 }
 
+// Round 2, with G.
 pub(crate) fn second(q: State, m: &[u8]) -> State
     requires { ⌜ length (now m) ≡ 64 ⌝ }
     ensures { λ r. ⌜ r ≡ stepsFrom (now (m .entry)) 16 16 q ⌝ }
@@ -43,6 +45,7 @@ pub(crate) fn second(q: State, m: &[u8]) -> State
     four(r, m, 28, s, 0xa9e3e905, 0xfcefa3f8, 0x676f02d9, 0x8d2a4c8a)
 }
 
+// Round 3, with H.
 pub(crate) fn third(q: State, m: &[u8]) -> State
     requires { ⌜ length (now m) ≡ 64 ⌝ }
     ensures { λ r. ⌜ r ≡ stepsFrom (now (m .entry)) 32 16 q ⌝ }
@@ -54,6 +57,7 @@ pub(crate) fn third(q: State, m: &[u8]) -> State
     four(r, m, 44, s, 0xd9d4d039, 0xe6db99e5, 0x1fa27cf8, 0xc4ac5665)
 }
 
+// Round 4, with I.
 pub(crate) fn fourth(q: State, m: &[u8]) -> State
     requires { ⌜ length (now m) ≡ 64 ⌝ }
     ensures { λ r. ⌜ r ≡ stepsFrom (now (m .entry)) 48 16 q ⌝ }

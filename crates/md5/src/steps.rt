@@ -1,8 +1,7 @@
 // An operation of RFC 1321, 3.4, for all rounds.
 ghost use mathlib.Core.Path.{_≡_};
-ghost use Prim.Native.Nat.{ℕ, _<_};
+ghost use Prim.Native.Nat.{_<_};
 ghost use lib.ListN.{length};
-ghost use Rattle.md5.specs.declared.State.{State};
 ghost use Rattle.md5.specs.Md5.{mix, indexIn, turn, step};
 ghost use Rattle.md5.specs.Steps.{Entry};
 use super::State;

@@ -1,6 +1,6 @@
 // Words of 32 bits: sums, rotations, and the words of a block.
 ghost use mathlib.Core.Path.{_≡_};
-ghost use Prim.Native.Nat.{ℕ, _+_, _*_, _%_, _^_, _<_};
+ghost use Prim.Native.Nat.{_+_, _*_, _%_, _^_, _<_};
 ghost use lib.ListN.{length};
 ghost use Rattle.md5.specs.Md5.{rotl, wordAt};
 

@@ -1,6 +1,6 @@
 -- `md5::steps::index_in` meets its contract: each arm is the definition's case. Assumes nothing.
 use borrow.Author.Needs.{needs}
-use mathlib.Core.Path.{_≡_, refl}
+use mathlib.Core.Path.{_≡_}
 use Prim.Native.Nat.{suc, _-_}
 use native.Mathlib.Omega.{arith}
 use Rattle.md5.proofs.steps.index_in.Statement.{statement}

@@ -1,4 +1,4 @@
--- `md5::steps::mix` meets its contract: F and G by `choose` and `chosen`, H and I as they are defined. Assumes nothing.
+-- `md5::steps::mix` meets its contract: F and G by the identity of `Choose`, H and I as they are defined. Assumes nothing.
 use borrow.Author.Needs.{needs}
 use mathlib.Core.Path.{_≡_}
 use Prim.Native.Nat.{suc, _-_}
