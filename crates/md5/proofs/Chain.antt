@@ -14,7 +14,7 @@ pub stepped : (m : List ℕ) (i s t f x j : ℕ) (q r : State) → r ≡ turn q 
 unfolding step
 stepped m i s t f x j q r er ef ex ej e = rw (er, ef, ex, ej, e .shift, e .sine)
 
--- i operations and j more
+-- j operations from i on, and then k more
 from-add : (m : List ℕ) (i j k : ℕ) (q : State) → stepsFrom m i (j + k) q ≡ stepsFrom m (i + j) k (stepsFrom m i j q)
 unfolding stepsFrom
 from-add m i j zero q = rw add-zero
