@@ -1,14 +1,14 @@
 -- The words after blocks of a message. A block is cut out by its place alone, so what stands behind it changes nothing, and blocks
 -- can be taken in two parts. The padding fills the message up to whole blocks by the choice of its zeros. Assumes nothing.
-use mathlib.Core.Path.{_≡_, refl, ap, _∙_}
+use mathlib.Core.Path.{_≡_, refl, _∙_}
 use mathlib.Core.List.{List, _++_}
 use Prim.Native.Nat.{ℕ, zero, suc, _+_, _-_, _*_, _/_, _%_, _≤_, _<_}
 use native.Mathlib.Nat.{add-zero, add-suc}
 use native.Mathlib.Omega.{arith}
-use lib.ListN.{length, take, drop, replicate, length-append, length-drop, length-replicate}
+use lib.ListN.{length, take, drop, length-append, length-drop, length-replicate}
 use lib.Seq.{take-append-le, drop-append-le, drop-drop, drop-at}
 use Rattle.md5.specs.declared.State.{State}
-use Rattle.md5.specs.Md5.{after, blockAt, md5Block, initial, leBytes, padding, pad, output, md5}
+use Rattle.md5.specs.Md5.{after, blockAt, md5Block, padding, pad, output, md5}
 
 blockAt-append : (k : ℕ) (m t : List ℕ) → 64 * k + 64 ≤ length m → blockAt k (m ++ t) ≡ blockAt k m
 blockAt-append k m t h =
@@ -51,10 +51,6 @@ after-more q r s at m es er h =
 pub after-last : (q r : State) (at : ℕ) (m : List ℕ) → r ≡ after q (at / 64) m → at ≤ length m → length m - at < 64 → at % 64 ≡ 0
     → r ≡ after q (length m / 64) m
 after-last q r at m e h l z = let ek : length m / 64 ≡ at / 64 = omega arith in rw (e, ek)
-
-pub length-leBytes : (k n : ℕ) → length (leBytes k n) ≡ k
-length-leBytes zero n = refl
-length-leBytes (suc k) n = ap suc (length-leBytes k (n / 256))
 
 pub length-padding : (n : ℕ) → length (padding n) ≡ (119 - n % 64) % 64 + 9
 length-padding n = simp (length-append, length-replicate) (omega arith)

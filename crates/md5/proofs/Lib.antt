@@ -1,4 +1,3 @@
-pub mod Table
-pub mod Steps
-pub mod Choose
+mod Choose
+mod Chain
 pub mod After

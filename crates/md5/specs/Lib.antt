@@ -1,2 +1,3 @@
 pub mod Table
 pub mod Md5
+pub mod Steps
