@@ -46,3 +46,7 @@ outer-run k m buf b b′ h d n q p r inner e more last held =
 pub whole-run : (k s buf b d : List ℕ) (p q : State) → ((l : List ℕ) → Held 64 (innerPad k) p l) → ((l : List ℕ) → Held 64 l p buf → Held (64 + length s) (l ++ s) q b)
     → ((l : List ℕ) → Held (64 + length s) (innerPad k ++ l) q b → d ≡ hmac k l) → d ≡ hmac k s
 whole-run k s buf b d p q first more last = last s (more (innerPad k) (first buf))
+
+pub length-hmac : (k m : List ℕ) → length (hmac k m) ≡ 16
+unfolding hmac
+length-hmac k m = length-md5 (outerPad k ++ md5 (innerPad k ++ m))

@@ -1,6 +1,7 @@
 // Exports for tests and benchmarks, apart from the product's C library. Each answers 0, or 1 where it refuses and writes nothing.
 mod numbers;
 mod runs;
+
 ghost use mathlib.Core.Path.{_≡_};
 ghost use Prim.Native.Nat.{_≤_};
 ghost use lib.ListN.{length};
@@ -53,11 +54,12 @@ fn hmac_cut(key: &[u8], m: &[u8], a: usize, b: usize) -> [u8; 16]
     requires { ⌜ (a ≤ b) × (b ≤ length (now m)) ⌝ }
     ensures { λ r. ⌜ r ≡ hmac (now (key .entry)) (now (m .entry)) ⌝ }
 {
+    let held = 64 + m.len();
     let mut buf = [0u8; 64];
     let q = digest::update(&mut buf, hmac::start(key), 64, &m[..a]);
     let q = digest::update(&mut buf, q, 64 + a, &m[a..b]);
     let q = digest::update(&mut buf, q, 64 + b, &m[b..]);
-    hmac::finish(&mut buf, q, 64 + m.len(), key)
+    hmac::finish(&mut buf, q, held, key)
 }
 
 // MD5 of a message handed over as m[..a], m[a..b], m[b..].

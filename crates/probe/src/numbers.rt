@@ -12,15 +12,12 @@ pub extern "C" fn probe_number(s: &[u8], at: usize, width: u32, value: &mut u32)
     ensures { λ r. ⌜ r ≡ answer (numberOk at width (now (s .entry))) ⌝ }
     ensures { λ r. ⌜ now (value .exit) ≡ cond (numberOk at width (now (s .entry))) (be at width (now (s .entry))) (now (value .entry)) ⌝ }
 {
-    if width == 2 {
-        if lies_in(s.len(), at, 2) {
+    if lies_in(s.len(), at, width as usize) {
+        if width == 2 {
             *value = octets::be16(s, at) as u32;
             return 0;
         }
-        return 1;
-    }
-    if width == 4 {
-        if lies_in(s.len(), at, 4) {
+        if width == 4 {
             *value = octets::be32(s, at);
             return 0;
         }
@@ -35,19 +32,16 @@ pub extern "C" fn probe_put(t: &mut [u8], at: usize, width: u32, v: u32) -> u32
     ensures { λ r. ⌜ r ≡ answer (putOk at width v (now (t .entry))) ⌝ }
     ensures { λ r. ⌜ now (t .exit) ≡ written (putOk at width v (now (t .entry))) (write (now (t .entry)) at (beBytes width v)) (now (t .entry)) ⌝ }
 {
-    if width == 2 {
-        if lies_in(t.len(), at, 2) {
-            if v < 65536 {
-                octets::put_be16(t, at, v as u16);
-                return 0;
-            }
+    if lies_in(t.len(), at, width as usize) {
+        if width == 4 {
+            octets::put_be32(t, at, v);
+            return 0;
+        }
+        if width != 2 {
             return 1;
         }
-        return 1;
-    }
-    if width == 4 {
-        if lies_in(t.len(), at, 4) {
-            octets::put_be32(t, at, v);
+        if v < 65536 {
+            octets::put_be16(t, at, v as u16);
             return 0;
         }
         return 1;

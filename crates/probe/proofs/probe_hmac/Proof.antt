@@ -1,36 +1,24 @@
+-- `probe::probe_hmac` meets its contract: refused where there is no room, else the digest stands in the whole of it.
+-- Assumes nothing.
 use borrow.Author.Needs.{needs}
+use Rattle.hmac.proofs.Runs.{length-hmac}
+use Rattle.probe.proofs.Answers.{refused, keeps, done, writes, room-no, room-yes, copied}
 use Rattle.probe.proofs.probe_hmac.Statement.{statement}
 use Rattle.probe.proofs.probe_hmac.Tie as tie
-use Rattle.probe.proofs.probe_hmac.Reads as reads
-use Rattle.probe.proofs.probe_hmac.Lts as lts
-use Rattle.hmac.proofs.of.Reads as of-reads
-use Rattle.octets.proofs.copy.Reads as copy-reads
 
--- src/lib.rt:32:9
 returns : tie.Need-returns
-returns c = search needs
+returns c = (search (needs, refused, room-no), search (needs, keeps, room-no))
 
--- src/lib.rt:34:13
-of-requires : tie.Need-of-requires
-of-requires c κs = search needs
-
--- src/lib.rt:35:26
-slice-aggregate-copy : tie.Need-slice-aggregate-copy
-slice-aggregate-copy c = search needs
-
--- src/lib.rt:35:5
-copy-requires : tie.Need-copy-requires
-copy-requires c κs = search needs
-
--- src/lib.rt:26:1
-same-length : tie.Need-same-length
-same-length c = search needs
-
--- src/lib.rt:26:1
 returns-2 : tie.Need-returns-2
-returns-2 c = search needs
+returns-2 c = (search (needs, done, room-yes), search (needs, writes, room-yes, copied, length-hmac))
 
 pub probe-hmac-spec : {M : Type 1} → statement M
 probe-hmac-spec =
     tie.close
-    (tie.spec returns of-requires slice-aggregate-copy copy-requires same-length returns-2)
+    (tie.spec
+    returns
+    (λ c κs. search needs)
+    (λ c. search needs)
+    (λ c κs. search needs)
+    (λ c. search needs)
+    returns-2)
