@@ -38,35 +38,35 @@ pub copy8-spec : {M : Type 1} → statement M
 copy8-spec =
     tie.close
     (tie.spec
-    (λ c. search needs)
-    (λ c. search needs)
-    (λ c. search needs)
-    (λ c. search needs)
-    (λ c. search needs)
-    (λ c. search needs)
-    (λ c. search needs)
-    (λ c. search needs)
-    (λ c. search needs)
-    (λ c. search needs)
-    (λ c. search needs)
-    (λ c. search needs)
-    (λ c. search needs)
-    (λ c. search needs)
-    (λ c. search needs)
-    (λ c. search needs)
-    (λ c. search needs)
+    (λ c. omega arith)
+    (λ c. omega arith)
+    (λ c. omega arith)
+    (λ c. omega arith)
+    (λ c. omega arith)
+    (λ c. omega arith)
+    (λ c. omega arith)
+    (λ c. omega arith)
+    (λ c. omega arith)
+    (λ c. omega arith)
+    (λ c. omega arith)
+    (λ c. omega arith)
+    (λ c. omega arith)
+    (λ c. omega arith)
+    (λ c. omega arith)
+    (λ c. omega arith)
+    (λ c. omega arith)
     slice-write-t-2
-    (λ c. search needs)
+    (λ c. omega arith)
     slice-write-t-3
-    (λ c. search needs)
+    (λ c. omega arith)
     slice-write-t-4
-    (λ c. search needs)
+    (λ c. omega arith)
     slice-write-t-5
-    (λ c. search needs)
+    (λ c. omega arith)
     slice-write-t-6
-    (λ c. search needs)
+    (λ c. omega arith)
     slice-write-t-7
-    (λ c. search needs)
+    (λ c. omega arith)
     slice-write-t-8
     same-length
     returns)
