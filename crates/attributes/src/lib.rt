@@ -1,4 +1,6 @@
 // The attribute reader: one attribute at a place, its value as the part of the area that it is, and whether attributes fill the area.
+ghost use mathlib.Core.Path.{_≡_};
+ghost use Rattle.attributes.specs.Attributes.{stepAt, valueOf, attributes, tiled, firstOf, kindIs};
 
 // An attribute: its type, where it stands in the area, and its length, which counts type and length too.
 pub struct Attribute {
@@ -21,4 +23,79 @@ pub enum Step {
     End,
     // A length below 2, or one that runs past the area.
     Bad,
+}
+
+// What stands at place at of the area s.
+pub fn step_at(s: &[u8], at: usize) -> Step
+    ensures { λ r. ⌜ r ≡ stepAt (now (s .entry)) at ⌝ }
+{
+    if s.len() <= at {
+        return Step::End;
+    }
+    let left = s.len() - at;
+    if left < 2 {
+        return Step::Bad;
+    }
+    let size = s[at + 1];
+    let n = size as usize;
+    if n < 2 {
+        return Step::Bad;
+    }
+    if left < n {
+        return Step::Bad;
+    }
+    let kind = s[at];
+    Step::Found(Attribute { kind, at, size }, at + n)
+}
+
+// The value of an attribute, as the part of the area that it is: what follows type and length, at most 253 bytes.
+pub fn value(s: &[u8], a: Attribute) -> &[u8]
+    ensures { λ r. ⌜ now r ≡ valueOf (now (s .entry)) a ⌝ }
+{
+    let size = a.size;
+    let whole = octets::slice(s, a.at, size as usize);
+    octets::slice(whole, 2, 253)
+}
+
+// Whether attributes fill the area exactly.
+pub fn tiles(s: &[u8]) -> bool
+    ensures { λ r. ⌜ r ≡ tiled (now (s .entry)) ⌝ }
+{
+    let mut at = 0;
+    loop {
+        match step_at(s, at) {
+            Step::Found(_, next) => {
+                at = next;
+            }
+            Step::End => {
+                return true;
+            }
+            Step::Bad => {
+                return false;
+            }
+        }
+    }
+}
+
+// The first attribute of a type.
+pub fn first(s: &[u8], kind: u8) -> Search
+    ensures { λ r. ⌜ r ≡ firstOf (kindIs kind) (attributes (now (s .entry))) ⌝ }
+{
+    let mut at = 0;
+    loop {
+        match step_at(s, at) {
+            Step::Found(a, next) => {
+                if a.kind == kind {
+                    return Search::At(a);
+                }
+                at = next;
+            }
+            Step::End => {
+                return Search::Missing;
+            }
+            Step::Bad => {
+                return Search::Missing;
+            }
+        }
+    }
 }

@@ -1,0 +1,24 @@
+-- The value of an attribute: the bytes of the whole attribute from the third on.
+-- Assumes nothing.
+use mathlib.Core.Path.{_≡_, refl, sym, ap, _∙_}
+use mathlib.Core.List.{List, [], _∷_, _++_}
+use Prim.Native.Nat.{ℕ, zero, suc, _+_, _-_, _≤_, _<_}
+use native.Mathlib.Omega.{arith}
+use lib.ListN.{length, take, drop, length-take}
+use lib.Seq.{take-nil, take-all, drop-drop}
+use Rattle.octets.specs.Runs.{part}
+use Rattle.attributes.specs.declared.Attribute.{Attribute}
+use Rattle.attributes.specs.Attributes.{valueOf}
+
+drop-take : (k n : ℕ) (l : List ℕ) → drop k (take n l) ≡ take (n - k) (drop k l)
+drop-take zero n l = let e : n - 0 ≡ n = omega arith in rw e
+drop-take (suc k) zero l = let e : 0 - suc k ≡ 0 = omega arith in rw e
+drop-take (suc k) (suc n) [] = sym (take-nil (suc n - suc k))
+drop-take (suc k) (suc n) (x ∷ l) = let e : suc n - suc k ≡ n - k = omega arith in rw e (drop-take k n l)
+
+-- of the bytes w of the whole attribute, those behind type and length: an attribute has at most 255 bytes
+pub value-of : (s w r : List ℕ) (a : Attribute) → w ≡ part (a .at) (a .size) s → r ≡ part 2 253 w → a .size < 256 → r ≡ valueOf s a
+unfolding part valueOf
+value-of s w r a e g h =
+    let low : length (take (a .size - 2) (drop (a .at + 2) s)) ≤ 253 = simp length-take (omega arith) in
+    g ∙ rw (e, drop-take 2 (a .size) (drop (a .at) s), drop-drop 2 (a .at) s) (take-all 253 (take (a .size - 2) (drop (a .at + 2) s)) low)
