@@ -79,3 +79,15 @@ countOf p (a ∷ rest) = cond (p a) (suc (countOf p rest)) (countOf p rest)
 -- an attribute of type k
 abbrev pub kindIs : ℕ → Attribute → Bool
 kindIs k a = eqb (a .kind) k
+
+-- no attribute: it has no bytes, so its value is empty
+abbrev pub nothing : Attribute
+nothing = record { kind = 0; at = 0; size = 0 }
+
+-- the attribute that a step found
+abbrev pub standing : Step → Attribute
+standing x = onStep nothing nothing (λ a next. a) x
+
+-- the value of the attribute that stands at a place; nothing where none does
+abbrev pub valueAt : List ℕ → ℕ → List ℕ
+valueAt s at = onStep [] [] (λ a next. valueOf s a) (stepAt s at)

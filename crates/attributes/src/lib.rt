@@ -1,6 +1,8 @@
 // The attribute reader: one attribute at a place, its value as the part of the area that it is, and whether attributes fill the area.
 ghost use mathlib.Core.Path.{_≡_};
-ghost use Rattle.attributes.specs.Attributes.{stepAt, valueOf, attributes, tiled, firstOf, kindIs};
+ghost use Rattle.attributes.specs.Attributes.{stepAt, standing, valueOf, attributes, tiled, firstOf, kindIs};
+
+pub mod reader;
 
 // An attribute: its type, where it stands in the area, and its length, which counts type and length too.
 pub struct Attribute {
@@ -46,6 +48,25 @@ pub fn step_at(s: &[u8], at: usize) -> Step
     }
     let kind = s[at];
     Step::Found(Attribute { kind, at, size }, at + n)
+}
+
+// The attribute that a step found; one of no bytes where it found none.
+pub fn standing(x: Step) -> Attribute
+    ensures { λ r. ⌜ r ≡ standing x ⌝ }
+{
+    match x {
+        Step::Found(a, _) => a,
+        Step::End => Attribute {
+            kind: 0,
+            at: 0,
+            size: 0,
+        },
+        Step::Bad => Attribute {
+            kind: 0,
+            at: 0,
+            size: 0,
+        },
+    }
 }
 
 // The value of an attribute, as the part of the area that it is: what follows type and length, at most 253 bytes.
