@@ -1,4 +1,6 @@
 pub mod Steps
 pub mod Walks
 pub mod Values
+pub mod Searches
+pub mod Stands
 pub mod Held

@@ -71,6 +71,11 @@ found Missing = false
 abbrev pub any : (Attribute → Bool) → List Attribute → Bool
 any p l = found (firstOf p l)
 
+-- what a test says of the first; false where there is none
+abbrev pub onFirst : (Attribute → Bool) → Search → Bool
+onFirst q (At a) = q a
+onFirst q Missing = false
+
 -- how many do
 abbrev pub countOf : (Attribute → Bool) → List Attribute → ℕ
 countOf p [] = 0
