@@ -3,4 +3,5 @@ pub mod Walks
 pub mod Values
 pub mod Searches
 pub mod Stands
+pub mod Joins
 pub mod Held

@@ -65,6 +65,17 @@ pub step-inv : (s : List ℕ) (at : ℕ) (a : Attribute) (next : ℕ) → stepAt
 unfolding stepAt
 step-inv s at a next e = placed s at a next _ _ _ refl refl refl e
 
+-- where the area ends
+ended : (s : List ℕ) (at : ℕ) (x y : Bool) (a : Attribute) (next : ℕ) → leb (length s) at ≡ x → cond x End (cond y (Found a next) Bad) ≡ End → length s ≤ at
+ended s at true y a next p e = leb-true _ _ p
+ended s at false true a next p e = let o : _≡_ {A = ℕ} 0 1 = cc in absurd (omega arith)
+ended s at false false a next p e = let o : _≡_ {A = ℕ} 0 1 = cc in absurd (omega arith)
+
+pub end-inv : (s : List ℕ) (at : ℕ) → stepAt s at ≡ End → length s ≤ at
+unfolding stepAt
+end-inv s at e =
+    ended s at (leb (length s) at) (leb 2 (lengthAt s at) && leb (lengthAt s at) (length s - at)) (record { kind = getD s at 0; at = at; size = lengthAt s at }) (at + lengthAt s at) refl e
+
 -- the same of the step x that `step_at` returned
 pub found-placed : (s : List ℕ) (at next : ℕ) (a : Attribute) (x : Step) → x ≡ stepAt s at → x ≡ Found a next → Placed s at a next
 found-placed s at next a x q r = step-inv s at a next (sym q ∙ r)
