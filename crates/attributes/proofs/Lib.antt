@@ -4,4 +4,5 @@ pub mod Values
 pub mod Searches
 pub mod Stands
 pub mod Joins
+pub mod Areas
 pub mod Held

