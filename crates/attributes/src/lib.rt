@@ -50,22 +50,21 @@ pub fn step_at(s: &[u8], at: usize) -> Step
     Step::Found(Attribute { kind, at, size }, at + n)
 }
 
+// No attribute: it has no bytes.
+const NOTHING: Attribute = Attribute {
+    kind: 0,
+    at: 0,
+    size: 0,
+};
+
 // The attribute that a step found; one of no bytes where it found none.
 pub fn standing(x: Step) -> Attribute
     ensures { λ r. ⌜ r ≡ standing x ⌝ }
 {
     match x {
         Step::Found(a, _) => a,
-        Step::End => Attribute {
-            kind: 0,
-            at: 0,
-            size: 0,
-        },
-        Step::Bad => Attribute {
-            kind: 0,
-            at: 0,
-            size: 0,
-        },
+        Step::End => NOTHING,
+        Step::Bad => NOTHING,
     }
 }
 
