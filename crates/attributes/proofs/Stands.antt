@@ -12,7 +12,7 @@ use Rattle.attributes.specs.declared.Search.{Search}
 use Rattle.attributes.specs.declared.Search.the-variants.{At}
 use Rattle.attributes.specs.declared.Step.{Step}
 use Rattle.attributes.specs.declared.Step.the-variants.{Found, End, Bad}
-use Rattle.attributes.specs.Attributes.{stepAt, onStep, walk, walkFrom, attributes, attributesFrom, firstOf}
+use Rattle.attributes.specs.Attributes.{stepAt, onStep, walk, walkFrom, attributes, attributesFrom, firstOf, valueOf, valueAt}
 use Rattle.attributes.proofs.Steps.{Placed, step-inv}
 
 -- the attributes of at most n turns
@@ -63,3 +63,10 @@ first-stands p s a e = member-stands s 0 a (first-member p (attributes s) a e)
 -- where it stands, of the answer z of a search
 pub first-placed : (p : Attribute → Bool) (s : List ℕ) (z : Search) (a : Attribute) → z ≡ firstOf p (attributes s) → z ≡ At a → Placed s (a .at) a (a .at + a .size)
 first-placed p s z a q r = step-inv s (a .at) a (a .at + a .size) (first-stands p s a (sym q ∙ r))
+
+-- its value is the one at its place
+pub found-value : (s : List ℕ) (at : ℕ) (a : Attribute) (next : ℕ) → stepAt s at ≡ Found a next → valueAt s at ≡ valueOf s a
+found-value s at a next q = ap (onStep [] [] (λ b next. valueOf s b)) q
+
+pub first-value : (p : Attribute → Bool) (s : List ℕ) (z : Search) (a : Attribute) → z ≡ firstOf p (attributes s) → z ≡ At a → valueAt s (a .at) ≡ valueOf s a
+first-value p s z a q r = found-value s (a .at) a (a .at + a .size) (first-stands p s a (sym q ∙ r))

@@ -3,7 +3,7 @@
 -- Assumes nothing.
 use mathlib.Core.Path.{_≡_, refl, sym, ap, _∙_}
 use mathlib.Core.Bool.{Bool, true, false}
-use mathlib.Core.List.{List}
+use mathlib.Core.List.{List, [], _∷_}
 use Prim.Native.Nat.{ℕ, zero, suc, _+_, _-_, _^_, _≤_, _<_}
 use native.Mathlib.Omega.{arith}
 use lib.ListN.{length}
@@ -76,6 +76,18 @@ module _ (s : List ℕ) (at next : ℕ) (a : Attribute) (x : Step) (q : x ≡ st
   pub room-same : n ≤ next
   room-same = let p = found-placed s at next a x q r in omega arith
 
+-- what is left from a place on
+module _ (s : List ℕ) (at : ℕ) (x : Step) (q : x ≡ stepAt s at) where
+  pub left-found : (next : ℕ) (a : Attribute) → x ≡ Found a next → attributesFrom s at ≡ a ∷ attributesFrom s next
+  left-found next a r = walk-found _ _ _ s at a next (sym q ∙ r)
+
+  pub left-end : x ≡ End → attributesFrom s at ≡ []
+  left-end r = walk-end _ _ _ s at (sym q ∙ r)
+
+  pub left-bad : x ≡ Bad → attributesFrom s at ≡ []
+  left-bad r = walk-bad _ _ _ s at (sym q ∙ r)
+
+-- whether attributes fill it
 module _ (s : List ℕ) (z : Bool) (at : ℕ) (x : Step) (i : z ≡ tiledFrom s at) (q : x ≡ stepAt s at) where
   pub tiles-on : (next : ℕ) (a : Attribute) → x ≡ Found a next → z ≡ tiledFrom s next
   tiles-on next a r = i ∙ walk-found _ _ _ s at a next (sym q ∙ r)
@@ -89,13 +101,13 @@ module _ (s : List ℕ) (z : Bool) (at : ℕ) (x : Step) (i : z ≡ tiledFrom s 
 -- the first attribute of type k
 module _ (k : ℕ) (s : List ℕ) (z : Search) (at : ℕ) (x : Step) (i : z ≡ firstOf (kindIs k) (attributesFrom s at)) (q : x ≡ stepAt s at) where
   pub first-here : (next : ℕ) (a : Attribute) → x ≡ Found a next → a .kind ≡ k → At a ≡ z
-  first-here next a r e = sym (i ∙ ap (firstOf (kindIs k)) (walk-found _ _ _ s at a next (sym q ∙ r)) ∙ rw (eq-eqb _ _ e))
+  first-here next a r e = sym (i ∙ ap (firstOf (kindIs k)) (left-found s at x q next a r) ∙ rw (eq-eqb _ _ e))
 
   pub first-on : (next : ℕ) (a : Attribute) → x ≡ Found a next → (a .kind ≡ k → ⊥) → z ≡ firstOf (kindIs k) (attributesFrom s next)
-  first-on next a r n = i ∙ ap (firstOf (kindIs k)) (walk-found _ _ _ s at a next (sym q ∙ r)) ∙ rw (ne-eqb _ _ n)
+  first-on next a r n = i ∙ ap (firstOf (kindIs k)) (left-found s at x q next a r) ∙ rw (ne-eqb _ _ n)
 
   pub first-end : x ≡ End → Missing ≡ z
-  first-end r = sym (i ∙ ap (firstOf (kindIs k)) (walk-end _ _ _ s at (sym q ∙ r)))
+  first-end r = sym (i ∙ ap (firstOf (kindIs k)) (left-end s at x q r))
 
   pub first-bad : x ≡ Bad → Missing ≡ z
-  first-bad r = sym (i ∙ ap (firstOf (kindIs k)) (walk-bad _ _ _ s at (sym q ∙ r)))
+  first-bad r = sym (i ∙ ap (firstOf (kindIs k)) (left-bad s at x q r))
