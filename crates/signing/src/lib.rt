@@ -1,0 +1,1 @@
+// The signatures of a packet where it lies.
