@@ -1,0 +1,12 @@
+-- Readers over an attribute area: one at the area's start, and one moved to another place.
+-- Assumes nothing.
+use mathlib.Core.List.{List}
+use Prim.Native.Nat.{ℕ}
+use denote.Ref.{RefT}
+use Rattle.attributes.specs.declared.reader.Reader.{Reader}
+
+abbrev pub opened : RefT (List ℕ) → Reader
+opened area = record { area = area; at = 0 }
+
+abbrev pub movedTo : Reader → ℕ → Reader
+movedTo r at = record { area = r .area; at = at }
