@@ -1,0 +1,4 @@
+pub mod Types
+pub mod Classes
+pub mod Survey
+pub mod Turns
