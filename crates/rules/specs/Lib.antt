@@ -1,0 +1,4 @@
+pub mod Packet
+pub mod Settings
+pub mod Discards
+pub mod Verdict

@@ -1,0 +1,50 @@
+-- The verdict on a request before any session is looked at: discarded, NAK, or passed (document 01: D1 to D6, then causes 1 to 6).
+-- Assumes nothing.
+use mathlib.Core.Bool.{Bool, cond, not}
+use mathlib.Core.List.{List}
+use Prim.Native.Nat.{ℕ}
+use lib.Dec.{eqb}
+use lib.IntN.{ℤ}
+use Rattle.stamps.specs.declared.Stamp as S
+use Rattle.stamps.specs.declared.Stamp.the-variants.{Usable, Unusable}
+use Rattle.stamps.specs.Stamp.{stampOf, stale, skewOf}
+use Rattle.causes.specs.declared.Cause as C
+use Rattle.causes.specs.declared.Cause.the-variants as K
+use Rattle.causes.specs.Causes.{causeOf}
+use Rattle.rules.specs.declared.Verdict as D
+use Rattle.rules.specs.declared.Verdict.the-variants.{Discarded, Stale, Nak, Passed}
+use Rattle.rules.specs.Packet.{codeOf, areaOf}
+use Rattle.rules.specs.Settings.{Settings}
+use Rattle.rules.specs.Discards.{formOf, badMac}
+
+-- a cause is a NAK; where none applies the request passed
+abbrev pub nakOr : ℤ → C.Cause → D.Verdict
+nakOr skew K.NoCause = Passed skew
+nakOr skew K.UnsupportedAttribute = Nak K.UnsupportedAttribute skew
+nakOr skew K.MissingAttribute = Nak K.MissingAttribute skew
+nakOr skew K.IdentificationMismatch = Nak K.IdentificationMismatch skew
+nakOr skew K.InvalidRequest = Nak K.InvalidRequest skew
+nakOr skew K.UnsupportedService = Nak K.UnsupportedService skew
+nakOr skew K.SessionNotFound = Nak K.SessionNotFound skew
+nakOr skew K.ResourcesUnavailable = Nak K.ResourcesUnavailable skew
+
+-- causes 1 to 6 of a fresh request
+unfoldable pub freshVerdict : Settings → List ℕ → ℤ → D.Verdict
+freshVerdict g p skew = nakOr skew (causeOf (codeOf p) (g .address) (g .name) (areaOf p))
+
+-- D6: no usable stamp; or a stale one, whose skew is told; else the causes
+abbrev pub stampVerdict : Settings → List ℕ → ℕ → S.Stamp → D.Verdict
+stampVerdict g p clock Unusable = Discarded 6
+stampVerdict g p clock (Usable v) = cond (stale v clock) (Stale (skewOf v clock)) (freshVerdict g p (skewOf v clock))
+
+-- D4 to D6 and causes 1 to 6 of a request that meets none of D1 to D3; `signed` says that D4 does not apply
+unfoldable pub checkVerdict : Settings → Bool → List ℕ → ℕ → D.Verdict
+checkVerdict g signed p clock =
+    cond signed
+    (cond (badMac (g .secret) p) (Discarded 5)
+    (stampVerdict g p clock (stampOf (areaOf p))))
+    (Discarded 4)
+
+-- D1 to D6 and causes 1 to 6
+unfoldable pub verdictOf : Settings → Bool → List ℕ → ℕ → D.Verdict
+verdictOf g signed p clock = cond (eqb (formOf p) 0) (checkVerdict g signed p clock) (Discarded (formOf p))
