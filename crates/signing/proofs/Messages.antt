@@ -11,6 +11,16 @@ use Rattle.md5.proofs.After.{length-md5}
 use Rattle.hmac.proofs.Runs.{length-hmac}
 use Rattle.signing.specs.Signing.{zeros, withAuth, signed, authenticator, messageAuthenticator}
 
+-- the bytes of m from i to e
+abbrev pub between : ℕ → ℕ → List ℕ → List ℕ
+between i e m = take (e - i) (drop i m)
+
+pub drop-take : (i n : ℕ) (l : List ℕ) → drop i (take n l) ≡ between i n l
+drop-take zero n l = rw sub-zero
+drop-take (suc i) zero l = let e : 0 - suc i ≡ 0 = omega arith in rw e
+drop-take (suc i) (suc n) [] = sym (take-nil (suc n - suc i))
+drop-take (suc i) (suc n) (x ∷ l) = let e : suc n - suc i ≡ n - i = omega arith in rw e (drop-take i n l)
+
 pub length-zeros : length zeros ≡ 16
 unfolding zeros
 length-zeros = refl

@@ -1,12 +1,11 @@
 -- The signatures as runs of calls: each call says what it holds of every message, and the pieces handed over are the definition's message.
 -- Assumes nothing.
 use mathlib.Core.Path.{_≡_, refl, sym, ap, _∙_}
-use mathlib.Core.List.{List, [], _∷_, _++_, append-assoc}
-use Prim.Native.Nat.{ℕ, zero, suc, _+_, _-_, _%_, _≤_}
-use native.Mathlib.Nat.{zero-add, sub-zero}
+use mathlib.Core.List.{List, [], _++_, append-assoc}
+use Prim.Native.Nat.{ℕ, _+_, _-_, _%_, _≤_}
 use native.Mathlib.Omega.{arith}
 use lib.ListN.{length, take, drop, replicate, length-append, length-take, length-drop}
-use lib.Seq.{take-nil, take-append-add, drop-append-add, take-take, drop-drop}
+use lib.Seq.{take-append-add, drop-append-add, take-take, drop-drop}
 use Rattle.octets.specs.Runs.{part, write, equalBytes}
 use Rattle.octets.proofs.Part.{part-whole}
 use Rattle.octets.proofs.Write.{write-then}
@@ -16,16 +15,7 @@ use Rattle.digest.specs.Held.{Held}
 use Rattle.digest.proofs.Pieces.{held-as, held-none, held-short}
 use Rattle.hmac.specs.Hmac.{innerPad, hmac}
 use Rattle.signing.specs.Signing.{zeros, withAuth, signed, blanked, authenticator, messageAuthenticator}
-
--- the bytes of m from i to e
-abbrev between : ℕ → ℕ → List ℕ → List ℕ
-between i e m = take (e - i) (drop i m)
-
-drop-take : (i n : ℕ) (l : List ℕ) → drop i (take n l) ≡ between i n l
-drop-take zero n l = rw sub-zero
-drop-take (suc i) zero l = let e : 0 - suc i ≡ 0 = omega arith in rw e
-drop-take (suc i) (suc n) [] = sym (take-nil (suc n - suc i))
-drop-take (suc i) (suc n) (x ∷ l) = let e : suc n - suc i ≡ n - i = omega arith in rw e (drop-take i n l)
+use Rattle.signing.proofs.Messages.{between, drop-take}
 
 -- a call of `update` with the piece s
 abbrev Updated : ℕ → List ℕ → State → List ℕ → State → List ℕ → Type 0
