@@ -3,7 +3,7 @@
 use mathlib.Core.Path.{_≡_, refl, sym, ap, _∙_}
 use mathlib.Core.List.{List, [], _∷_, _++_}
 use Prim.Native.Nat.{ℕ, zero, suc, _+_, _-_, _≤_, _<_}
-use native.Mathlib.Nat.{add-suc, add-zero}
+use native.Mathlib.Nat.{add-suc, add-zero, sub-zero}
 use native.Mathlib.Omega.{arith}
 use lib.ListN.{length, getD, take, drop, set, length-take, length-drop, drop-of-length-le}
 use lib.Seq.{sets, take-nil, take-all, take-take, drop-drop, take-add, getD-take, getD-drop, take-set-le, take-set-lt, drop-set-lt, drop-set-add}
@@ -40,6 +40,17 @@ part-rest i n l h = take-all (length l - i) (drop i l) (simp length-drop (omega 
 pub part-whole : (l : List ℕ) → part 0 (length l) l ≡ l
 unfolding part
 part-whole l = take-all (length l) l (omega arith)
+
+drop-take : (i n : ℕ) (l : List ℕ) → drop i (take n l) ≡ take (n - i) (drop i l)
+drop-take zero n l = rw sub-zero
+drop-take (suc i) zero l = let e : 0 - suc i ≡ 0 = omega arith in rw e
+drop-take (suc i) (suc n) [] = sym (take-nil (suc n - suc i))
+drop-take (suc i) (suc n) (x ∷ l) = let e : suc n - suc i ≡ n - i = omega arith in rw e (drop-take i n l)
+
+-- a part of a part
+pub part-part : (i m j n : ℕ) (l : List ℕ) → i + m ≤ n → part i m (part j n l) ≡ part (j + i) m l
+unfolding part
+part-part i m j n l h = rw (drop-take i n (drop j l), take-take m (n - i) (drop i (drop j l)) (omega arith), drop-drop i j l)
 
 -- two parts, one behind the other
 pub part-add : (i n m : ℕ) (l : List ℕ) → part i (n + m) l ≡ part i n l ++ part (i + n) m l

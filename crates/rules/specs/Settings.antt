@@ -7,3 +7,6 @@ pub record Settings : Type 0 where
   pub secret : List ℕ
   pub address : ℕ
   pub name : List ℕ
+
+abbrev pub settings : List ℕ → ℕ → List ℕ → Settings
+settings secret address name = record { secret = secret; address = address; name = name }

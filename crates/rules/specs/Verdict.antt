@@ -1,6 +1,6 @@
 -- The verdict on a request before any session is looked at: discarded, NAK, or passed (document 01: D1 to D6, then causes 1 to 6).
 -- Assumes nothing.
-use mathlib.Core.Bool.{Bool, cond, not}
+use mathlib.Core.Bool.{Bool, true, false, cond}
 use mathlib.Core.List.{List}
 use Prim.Native.Nat.{ℕ}
 use lib.Dec.{eqb}
@@ -17,16 +17,20 @@ use Rattle.rules.specs.Packet.{codeOf, areaOf}
 use Rattle.rules.specs.Settings.{Settings}
 use Rattle.rules.specs.Discards.{formOf, badMac}
 
--- a cause is a NAK; where none applies the request passed
-abbrev pub nakOr : ℤ → C.Cause → D.Verdict
-nakOr skew K.NoCause = Passed skew
-nakOr skew K.UnsupportedAttribute = Nak K.UnsupportedAttribute skew
-nakOr skew K.MissingAttribute = Nak K.MissingAttribute skew
-nakOr skew K.IdentificationMismatch = Nak K.IdentificationMismatch skew
-nakOr skew K.InvalidRequest = Nak K.InvalidRequest skew
-nakOr skew K.UnsupportedService = Nak K.UnsupportedService skew
-nakOr skew K.SessionNotFound = Nak K.SessionNotFound skew
-nakOr skew K.ResourcesUnavailable = Nak K.ResourcesUnavailable skew
+-- a cause applies
+abbrev pub applies : C.Cause → Bool
+applies K.NoCause = false
+applies K.UnsupportedAttribute = true
+applies K.MissingAttribute = true
+applies K.IdentificationMismatch = true
+applies K.InvalidRequest = true
+applies K.UnsupportedService = true
+applies K.SessionNotFound = true
+applies K.ResourcesUnavailable = true
+
+-- it is a NAK; where none applies the request passed
+unfoldable pub nakOr : ℤ → C.Cause → D.Verdict
+nakOr skew c = cond (applies c) (Nak c skew) (Passed skew)
 
 -- causes 1 to 6 of a fresh request
 unfoldable pub freshVerdict : Settings → List ℕ → ℤ → D.Verdict
