@@ -3,6 +3,8 @@ mod mac; // mac.rt: D5
 
 ghost use mathlib.Core.Path.{_≡_};
 ghost use mathlib.Core.Bool.{_||_};
+ghost use mathlib.Core.List.{List};
+ghost use Prim.Native.Nat.{ℕ, _<_, _≤_};
 ghost use lib.Dec.{eqb};
 ghost use lib.ListN.{length};
 ghost use Rattle.survey.specs.Survey.{Surveyed};
@@ -69,4 +71,63 @@ fn nak_or(cause: causes::Cause, skew: i64) -> Verdict
         causes::Cause::SessionNotFound => Verdict::Nak(cause, skew),
         causes::Cause::ResourcesUnavailable => Verdict::Nak(cause, skew),
     }
+}
+
+// Causes 1 to 6 of a fresh request.
+fn fresh(
+    p: &[u8],
+    s: &[u8],
+    address: u32,
+    name: &[u8],
+    skew: i64,
+    f: survey::Flags,
+    count: &[u8; 256],
+    ends: &[u16; 256],
+    sizes: &[u8; 256],
+) -> Verdict
+    requires { ⌜ (0 < length (now p)) × (now s ≡ areaOf (now p)) ⌝ }
+    requires { ⌜ Surveyed (areaOf (now p)) (codeOf (now p)) f (now count) (now ends) (now sizes) ⌝ }
+    ensures { λ r. ⌜ ((secret : List ℕ) → r ≡ freshVerdict (settings secret address (now (name .entry))) (now (p .entry)) skew) ⌝ }
+{
+    let cause = causes::first_cause(s, p[0], address, name, f, count, ends, sizes);
+    nak_or(cause, skew)
+}
+
+// D4 to D6 and causes 1 to 6 of a request that meets none of D1 to D3; signed says that D4 does not apply.
+pub fn check(
+    p: &[u8],
+    n: usize,
+    signed: bool,
+    secret: &[u8],
+    address: u32,
+    name: &[u8],
+    clock: u32,
+    f: survey::Flags,
+    count: &[u8; 256],
+    ends: &[u16; 256],
+    sizes: &[u8; 256],
+) -> Verdict
+    requires { ⌜ (n ≡ lengthOf (now p)) × (20 ≤ n) × (n ≤ length (now p)) ⌝ }
+    requires { ⌜ Surveyed (areaOf (now p)) (codeOf (now p)) f (now count) (now ends) (now sizes) ⌝ }
+    ensures { λ r. ⌜ r ≡ checkVerdict (settings (now (secret .entry)) address (now (name .entry))) «signed» (now (p .entry)) clock ⌝ }
+{
+    if signed {
+        if mac::bad_mac(p, n, secret, f, count, ends, sizes) {
+            return Verdict::Discarded(5);
+        }
+        let s = octets::slice(p, 20, n - 20);
+        match stamps::stamp_of(s, p[0], f, count, ends, sizes) {
+            stamps::Stamp::Unusable => {
+                return Verdict::Discarded(6);
+            }
+            stamps::Stamp::Usable(v) => {
+                let skew = stamps::skew(v, clock);
+                if stamps::stale(v, clock) {
+                    return Verdict::Stale(skew);
+                }
+                return fresh(p, s, address, name, skew, f, count, ends, sizes);
+            }
+        }
+    }
+    Verdict::Discarded(4)
 }

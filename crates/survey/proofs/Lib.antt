@@ -6,3 +6,4 @@ pub mod Repeats
 pub mod Types
 pub mod Held
 pub mod Passes
+pub mod Values

@@ -2,9 +2,10 @@
 -- Assumes nothing.
 use mathlib.Core.Bool.{Bool, true, false, cond, not, _&&_, _||_}
 use mathlib.Core.List.{List}
-use Prim.Native.Nat.{ℕ}
+use Prim.Native.Nat.{ℕ, _+_, _-_}
 use lib.Dec.{eqb}
 use lib.ListN.{getD, set}
+use Rattle.octets.specs.Runs.{part}
 use Rattle.survey.specs.declared.Flags as D
 use Rattle.survey.specs.Classes.{says}
 
@@ -48,3 +49,7 @@ countedAt count k = cond (eqb (getD count k 0) 0) (set count k 1) (set count k 2
 -- what is kept of the first of type k
 unfoldable pub keptAt : List ℕ → List ℕ → ℕ → ℕ → List ℕ
 keptAt count kept k v = cond (eqb (getD count k 0) 0) (set kept k v) kept
+
+-- the value of an attribute of this end and length
+unfoldable pub keptValue : List ℕ → ℕ → ℕ → List ℕ
+keptValue s end size = part (end - size + 2) (size - 2) s

@@ -14,6 +14,7 @@ use marks::unmarked;
 
 mod classes;
 mod counts;
+pub mod kept;
 mod marks;
 
 // The flags of a pass.

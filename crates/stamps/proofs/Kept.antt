@@ -1,0 +1,85 @@
+-- The stamp from what a pass kept: type 55 stands once exactly where its count is 1, and its value starts 4 bytes before its end.
+-- Assumes nothing.
+use mathlib.Core.Path.{_≡_, refl, sym, ap, _∙_}
+use mathlib.Core.Bool.{Bool, true, false, cond}
+use mathlib.Core.List.{List}
+use Prim.Native.Nat.{ℕ, zero, suc, _+_, _-_, _≤_, _<_}
+use native.Mathlib.Omega.{arith}
+use lib.ListN.{length, getD}
+use lib.Dec.{eqb, lit<}
+use borrow.Author.Tests.{eq-eqb, ne-eqb}
+use Rattle.octets.specs.Numbers.{be}
+use Rattle.attributes.specs.declared.Attribute.{Attribute}
+use Rattle.attributes.specs.declared.Search.{Search}
+use Rattle.attributes.specs.declared.Search.the-variants.{At, Missing}
+use Rattle.attributes.specs.Attributes.{attributes, firstOf, countOf, kindIs}
+use Rattle.attributes.proofs.Stands.{first-placed}
+use Rattle.survey.specs.declared.Flags.{Flags}
+use Rattle.survey.specs.Survey.{Surveyed, upToTwo, endOf, sizeOf}
+use Rattle.stamps.specs.declared.Stamp.the-variants.{Usable, Unusable}
+use Rattle.stamps.specs.Stamp.{stampIn, stampOf}
+
+-- ---- of the first attribute of a type, if there is one
+
+of-six : (s : List ℕ) (x : Search) → sizeOf x ≡ 6 → Usable (be (endOf x - 4) 4 s) ≡ stampIn s x
+of-six s (At a) h = let e : a .at + a .size - 4 ≡ a .at + 2 = omega arith in rw (eq-eqb _ _ h) (ap (λ (n : ℕ). Usable (be n 4 s)) e)
+of-six s Missing h = absurd (omega arith)
+
+six-low : (x : Search) → sizeOf x ≡ 6 → 4 ≤ endOf x
+six-low (At a) h = omega arith
+six-low Missing h = absurd (omega arith)
+
+of-other : (s : List ℕ) (x : Search) → (sizeOf x ≡ 6 → ⊥) → Unusable ≡ stampIn s x
+of-other s (At a) h = rw (ne-eqb _ _ h)
+of-other s Missing h = refl
+
+inside : (p : Attribute → Bool) (s : List ℕ) (x : Search) → x ≡ firstOf p (attributes s) → endOf x ≤ length s
+inside p s (At a) q = let g = first-placed p s (At a) a q refl in g .inside
+inside p s Missing q = omega arith
+
+one : (n : ℕ) → upToTwo n ≡ 1 → n ≡ 1
+one zero h = absurd (omega arith)
+one (suc zero) h = refl
+one (suc (suc n)) h = absurd (omega arith)
+
+-- ---- the answers of the code
+
+module _ (s : List ℕ) (code : ℕ) (f : Flags) (count ends sizes : List ℕ) (i : Surveyed s code f count ends sizes) where
+  abbrev stamped : Search
+  stamped = firstOf (kindIs 55) (attributes s)
+
+  not-33 : _≡_ {A = ℕ} 55 33 → ⊥
+  not-33 e = omega arith
+
+  pub stamp-count : (getD count 55 0 ≡ 1 → ⊥) → Unusable ≡ stampOf s
+  unfolding stampOf
+  stamp-count h =
+      rw (ne-eqb (countOf (kindIs 55) (attributes s)) 1 (λ e. h (i .types 55 (lit< tt) not-33 .number ∙ ap upToTwo e)))
+
+  module _ (h : getD count 55 0 ≡ 1) where
+    once : eqb (countOf (kindIs 55) (attributes s)) 1 ≡ true
+    once = eq-eqb _ _ (one (countOf (kindIs 55) (attributes s)) (sym (i .types 55 (lit< tt) not-33 .number) ∙ h))
+
+    pub stamp-size : (getD sizes 55 0 ≡ 6 → ⊥) → Unusable ≡ stampOf s
+    unfolding stampOf
+    stamp-size k = rw once (of-other s stamped (λ e. k (i .types 55 (lit< tt) not-33 .size ∙ e)))
+
+    module _ (k : getD sizes 55 0 ≡ 6) (end : ℕ) (w : end ≡ getD ends 55 0) where
+      where-ends : end ≡ endOf stamped
+      where-ends = w ∙ i .types 55 (lit< tt) not-33 .end
+
+      six : sizeOf stamped ≡ 6
+      six = sym (i .types 55 (lit< tt) not-33 .size) ∙ k
+
+      pub stamp-low : 4 ≤ end
+      stamp-low = rw where-ends (six-low stamped six)
+
+      pub stamp-room : end - 4 + 4 ≤ length s
+      stamp-room =
+          let l = stamp-low in
+          let m : end ≤ length s = rw where-ends (inside (kindIs 55) s stamped refl) in
+          omega arith
+
+      pub stamp-usable : (v : ℕ) → v ≡ be (end - 4) 4 s → Usable v ≡ stampOf s
+      unfolding stampOf
+      stamp-usable v e = rw (once, e, where-ends) (of-six s stamped six)
