@@ -1,17 +1,18 @@
 -- D1 to D3 from the tests that the code makes, in their order.
 -- Assumes nothing.
 use mathlib.Core.Path.{_≡_, refl, sym, ap, _∙_}
-use mathlib.Core.Bool.{Bool, true, false, cond, not, _||_}
+use mathlib.Core.Bool.{Bool, true, false, cond, not, _||_, false≢true}
 use mathlib.Core.List.{List}
 use Prim.Native.Nat.{ℕ, _-_, _<_, _≤_}
-use borrow.Author.Tests.{lt-ltb, le-ltb}
+use native.Mathlib.Omega.{arith}
+use borrow.Author.Tests.{lt-ltb, le-ltb, ltb-false}
 use lib.Dec.{eqb, ltb}
 use lib.ListN.{length}
 use Rattle.octets.specs.Runs.{part}
 use Rattle.octets.specs.Numbers.{be}
 use Rattle.attributes.specs.Attributes.{tiled}
 use Rattle.rules.specs.Packet.{codeOf, lengthOf, areaOf}
-use Rattle.rules.specs.Discards.{badLength, badCode, badAttributes, formOf}
+use Rattle.rules.specs.Discards.{badLength, badCode, badAttributes, formOf, Sized}
 
 -- the number of D1 to D3 from the three tests
 form-one : (p : List ℕ) → badLength p ≡ true → 1 ≡ formOf p
@@ -56,3 +57,24 @@ module _ (p : List ℕ) (n : ℕ) (is : n ≡ be 2 2 p) (long : 20 ≤ length p)
         pub form-untiled : (r t : Bool) (s : List ℕ) → r ≡ eqb (codeOf p) 40 || eqb (codeOf p) 43 → r ≡ true → s ≡ part 20 (n - 20) p → t ≡ tiled s → t ≡ false → 3 ≡ formOf p
         unfolding formOf badCode badAttributes
         form-untiled r t s e h a g k = rw (good, ← e, h, ← is, ← a, ← g, k)
+
+-- none of D1 to D3 applies: Length is from 20 to 4,096, and so many bytes are given
+sized-of : (p : List ℕ) (n : ℕ) (a b c d : Bool) → n ≡ lengthOf p → ltb (length p) 20 ≡ a → ltb (lengthOf p) 20 ≡ b → ltb 4096 (lengthOf p) ≡ c → ltb (length p) (lengthOf p) ≡ d
+    → (a || (b || (c || d))) ≡ false → Sized p n
+sized-of p n false false false false i ea eb ec ed h =
+    rw i record { is = refl; low = ltb-false _ _ eb; high = ltb-false _ _ ec; given = ltb-false _ _ ed }
+sized-of p n true b c d i ea eb ec ed h = absurd (false≢true (sym h))
+sized-of p n false true c d i ea eb ec ed h = absurd (false≢true (sym h))
+sized-of p n false false true d i ea eb ec ed h = absurd (false≢true (sym h))
+sized-of p n false false false true i ea eb ec ed h = absurd (false≢true (sym h))
+
+pub form-sized : (p : List ℕ) (n : ℕ) → formOf p ≡ 0 → n ≡ be 2 2 p → Sized p n
+unfolding formOf badLength
+form-sized p n e i = sized-of p n _ _ _ _ i refl refl refl refl (go (badLength p) refl)
+  where
+    go : (b : Bool) → badLength p ≡ b → b ≡ false
+    go true h = absurd (omega (arith, rw h at e))
+    go false h = refl
+
+pub form-head : (p : List ℕ) (k : ℕ) → formOf p ≡ 0 → k ≤ 20 → k ≤ length p
+form-head p k e h = let z = form-sized p (be 2 2 p) e refl in omega arith

@@ -20,7 +20,7 @@ use Rattle.signing.specs.Signing.{zeros, messageAuthenticator}
 use Rattle.survey.specs.declared.Flags.{Flags}
 use Rattle.survey.specs.Survey.{Surveyed, Counted, upToTwo, endOf, sizeOf}
 use Rattle.rules.specs.Packet.{codeOf, lengthOf, areaOf}
-use Rattle.rules.specs.Discards.{wrongMac, badMac}
+use Rattle.rules.specs.Discards.{Sized, wrongMac, badMac}
 
 -- a count up to two
 two-none : (n : ℕ) → upToTwo n ≡ 0 → n ≡ 0
@@ -90,7 +90,7 @@ module _ (secret p : List ℕ) (f : Flags) (count ends sizes : List ℕ) (survey
       ∙ one e (λ z. onFirst (wrongMac secret p) z ≡ true)
       (λ a i. let ne : a .size ≡ 18 → ⊥ = λ k. h (known .size ∙ ap sizeOf i ∙ k) in rw (ne-eqb (a .size) 18 ne)))
 
-  module _ (n end : ℕ) (is : n ≡ lengthOf p) (low : 20 ≤ n) (whole : n ≤ length p) (e : getD count 80 0 ≡ 1) (size : getD sizes 80 0 ≡ 18) (at : end ≡ getD ends 80 0) where
+  module _ (n end : ℕ) (sized : Sized p n) (e : getD count 80 0 ≡ 1) (size : getD sizes 80 0 ≡ 18) (at : end ≡ getD ends 80 0) where
     -- where the value lies in the packet
     placed : (a : Attribute) → first ≡ At a → (end ≡ a .at + 18) × (end + 20 ≤ n)
     unfolding first
@@ -98,6 +98,7 @@ module _ (secret p : List ℕ) (f : Flags) (count ends sizes : List ℕ) (survey
         let s : a .size ≡ 18 = sym (ap sizeOf i) ∙ sym (known .size) ∙ size in
         let g : end ≡ a .at + a .size = at ∙ known .end ∙ ap endOf i in
         let inside = first-placed (kindIs 80) (areaOf p) first a refl i .inside in
+        let is = sized .is in
         let long : length (areaOf p) ≡ n - 20 = rw (← is) (length-part 20 (n - 20) p (omega arith)) in
         (omega arith, omega arith)
 
@@ -114,6 +115,7 @@ module _ (secret p : List ℕ) (f : Flags) (count ends sizes : List ℕ) (survey
         sym (once (at-most e)
         ∙ one e (λ x. onFirst (wrongMac secret p) x ≡ not r)
         (λ a i.
+        let is = sized .is in
         let q = placed a i in
         let s : a .size ≡ 18 = sym (ap sizeOf i) ∙ sym (known .size) ∙ size in
         let w : 22 + a .at ≡ end + 4 = omega arith in

@@ -2,7 +2,8 @@
 -- Assumes nothing.
 use mathlib.Core.Bool.{Bool, cond, not, _&&_, _||_}
 use mathlib.Core.List.{List}
-use Prim.Native.Nat.{ℕ, _+_}
+use mathlib.Core.Path.{_≡_}
+use Prim.Native.Nat.{ℕ, _+_, _≤_}
 use lib.Dec.{eqb, ltb}
 use lib.ListN.{length}
 use Rattle.octets.specs.Runs.{equalBytes}
@@ -26,6 +27,13 @@ badAttributes p = not (tiled (areaOf p))
 -- D1, D2, D3, the first that applies; 0 where none does
 unfoldable pub formOf : List ℕ → ℕ
 formOf p = cond (badLength p) 1 (cond (badCode p) 2 (cond (badAttributes p) 3 0))
+
+-- n is the Length of a packet that does not meet D1
+pub record Sized (p : List ℕ) (n : ℕ) : Type 0 where
+  pub is : n ≡ lengthOf p
+  pub low : 20 ≤ n
+  pub high : n ≤ 4096
+  pub given : n ≤ length p
 
 -- D4: the authenticator in the packet is the request's
 unfoldable pub signedBy : List ℕ → List ℕ → Bool

@@ -2,15 +2,14 @@
 mod mac; // mac.rt: D5
 
 ghost use mathlib.Core.Path.{_≡_};
-ghost use mathlib.Core.Bool.{_||_};
-ghost use mathlib.Core.List.{List};
-ghost use Prim.Native.Nat.{ℕ, _<_, _≤_};
+ghost use mathlib.Core.Bool.{true, _||_};
+ghost use Prim.Native.Nat.{_<_, _≤_};
 ghost use lib.Dec.{eqb};
 ghost use lib.ListN.{length};
 ghost use Rattle.survey.specs.Survey.{Surveyed};
 ghost use Rattle.rules.specs.Packet.{codeOf, lengthOf, areaOf};
 ghost use Rattle.rules.specs.Settings.{settings};
-ghost use Rattle.rules.specs.Discards.{formOf, signedBy};
+ghost use Rattle.rules.specs.Discards.{formOf, Sized, signedBy};
 ghost use Rattle.rules.specs.Verdict.{nakOr, freshVerdict, checkVerdict, verdictOf};
 
 // Document 01's answers: discarded by a number, no stamp usable; discarded by D6 for a stale stamp; NAK with a cause; passed. The last three tell the skew.
@@ -57,6 +56,14 @@ pub fn form(p: &[u8]) -> u8
     2
 }
 
+// The Length of a packet that meets none of D1 to D3.
+pub fn length_of(p: &[u8]) -> usize
+    requires { ⌜ formOf (now p) ≡ 0 ⌝ }
+    ensures { λ r. ⌜ Sized (now (p .entry)) r ⌝ }
+{
+    octets::be16(p, 2) as usize
+}
+
 // A cause is a NAK.
 fn nak_or(cause: causes::Cause, skew: i64) -> Verdict
     ensures { λ r. ⌜ r ≡ nakOr skew cause ⌝ }
@@ -87,7 +94,7 @@ fn fresh(
 ) -> Verdict
     requires { ⌜ (0 < length (now p)) × (now s ≡ areaOf (now p)) ⌝ }
     requires { ⌜ Surveyed (areaOf (now p)) (codeOf (now p)) f (now count) (now ends) (now sizes) ⌝ }
-    ensures { λ r. ⌜ ((secret : List ℕ) → r ≡ freshVerdict (settings secret address (now (name .entry))) (now (p .entry)) skew) ⌝ }
+    ensures { λ r. ⌜ r ≡ freshVerdict address (now (name .entry)) (now (p .entry)) skew ⌝ }
 {
     let cause = causes::first_cause(s, p[0], address, name, f, count, ends, sizes);
     nak_or(cause, skew)
@@ -107,7 +114,7 @@ pub fn check(
     ends: &[u16; 256],
     sizes: &[u8; 256],
 ) -> Verdict
-    requires { ⌜ (n ≡ lengthOf (now p)) × (20 ≤ n) × (n ≤ length (now p)) ⌝ }
+    requires { ⌜ Sized (now p) n ⌝ }
     requires { ⌜ Surveyed (areaOf (now p)) (codeOf (now p)) f (now count) (now ends) (now sizes) ⌝ }
     ensures { λ r. ⌜ r ≡ checkVerdict (settings (now (secret .entry)) address (now (name .entry))) «signed» (now (p .entry)) clock ⌝ }
 {
@@ -128,6 +135,46 @@ pub fn check(
                 return fresh(p, s, address, name, skew, f, count, ends, sizes);
             }
         }
+    }
+    Verdict::Discarded(4)
+}
+
+// D5, D6 and causes 1 to 6 of a request that is rightly signed.
+fn check_signed(p: &[u8], n: usize, secret: &[u8], address: u32, name: &[u8], clock: u32) -> Verdict
+    requires { ⌜ Sized (now p) n ⌝ }
+    ensures { λ r. ⌜ r ≡ checkVerdict (settings (now (secret .entry)) address (now (name .entry))) true (now (p .entry)) clock ⌝ }
+{
+    let mut count = [0u8; 256];
+    let mut ends = [0u16; 256];
+    let mut sizes = [0u8; 256];
+    let s = octets::slice(p, 20, n - 20);
+    let f = survey::survey(s, p[0], &mut count, &mut ends, &mut sizes);
+    check(
+        p,
+        n,
+        true,
+        secret,
+        address,
+        name,
+        clock,
+        f,
+        &count,
+        &ends,
+        &sizes,
+    )
+}
+
+// D1 to D6 and causes 1 to 6 of a packet.
+pub fn judge(p: &[u8], secret: &[u8], address: u32, name: &[u8], clock: u32) -> Verdict
+    ensures { λ r. ⌜ r ≡ verdictOf (settings (now (secret .entry)) address (now (name .entry))) (signedBy (now (secret .entry)) (now (p .entry))) (now (p .entry)) clock ⌝ }
+{
+    let d = form(p);
+    if d != 0 {
+        return Verdict::Discarded(d);
+    }
+    let n = length_of(p);
+    if signing::request_signed(p, n, secret) {
+        return check_signed(p, n, secret, address, name, clock);
     }
     Verdict::Discarded(4)
 }

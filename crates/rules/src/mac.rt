@@ -1,10 +1,9 @@
 // D5: the Message-Authenticator of a request.
 ghost use mathlib.Core.Path.{_≡_};
-ghost use Prim.Native.Nat.{_<_, _≤_};
-ghost use lib.ListN.{length};
+ghost use Prim.Native.Nat.{_<_};
 ghost use Rattle.survey.specs.Survey.{Surveyed};
-ghost use Rattle.rules.specs.Packet.{codeOf, lengthOf, areaOf};
-ghost use Rattle.rules.specs.Discards.{badMac};
+ghost use Rattle.rules.specs.Packet.{codeOf, areaOf};
+ghost use Rattle.rules.specs.Discards.{Sized, badMac};
 use survey::Flags;
 
 fn wide(x: u16) -> usize
@@ -23,7 +22,7 @@ pub fn bad_mac(
     ends: &[u16; 256],
     sizes: &[u8; 256],
 ) -> bool
-    requires { ⌜ (n ≡ lengthOf (now p)) × (20 ≤ n) × (n ≤ length (now p)) ⌝ }
+    requires { ⌜ Sized (now p) n ⌝ }
     requires { ⌜ Surveyed (areaOf (now p)) (codeOf (now p)) f (now count) (now ends) (now sizes) ⌝ }
     ensures { λ r. ⌜ r ≡ badMac (now (secret .entry)) (now (p .entry)) ⌝ }
 {
