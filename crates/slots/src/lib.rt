@@ -1,0 +1,23 @@
+// The session table: its slots, which of them are live, and which of them a request names.
+
+// A field of a slot that a request can name a session by.
+pub enum Field {
+    UserName,
+    NasPort,
+    FramedAddress,
+    CallingStation,
+    SessionId,
+}
+
+// A field and the value that it must have: size bytes from place at on of the request.
+pub struct Criterion {
+    pub field: Field,
+    pub at: usize,
+    pub size: usize,
+}
+
+// The criteria of a request: the first count of the list.
+pub struct Criteria {
+    pub count: usize,
+    pub list: [Criterion; 5],
+}
