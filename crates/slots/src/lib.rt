@@ -1,4 +1,10 @@
 // The session table: its slots, which of them are live, and which of them a request names.
+ghost use mathlib.Core.Path.{_≡_};
+ghost use Prim.Native.Nat.{_+_, _*_, _≤_, _<_};
+ghost use lib.ListN.{length, getD};
+ghost use Rattle.slots.specs.Slot.{slotCount, slot, within, live, text};
+ghost use Rattle.slots.specs.Matching.{fieldBytes, meets, listed, matchesAt};
+ghost use Rattle.slots.specs.Marks.{marksAfter};
 
 // A field of a slot that a request can name a session by.
 pub enum Field {
@@ -20,4 +26,148 @@ pub struct Criterion {
 pub struct Criteria {
     pub count: usize,
     pub list: [Criterion; 5],
+}
+
+// The number of slots; none where the length is not 192 times 1 to 64.
+pub fn slot_count(t: &[u8]) -> usize
+    ensures { λ r. ⌜ r ≡ slotCount (now (t .entry)) ⌝ }
+{
+    let n = t.len();
+    if n % 192 != 0 {
+        return 0;
+    }
+    if 64 < n / 192 {
+        return 0;
+    }
+    n / 192
+}
+
+// Slot k of the table, or as much of it as there is.
+pub fn slot_of(t: &[u8], k: usize) -> &[u8]
+    ensures { λ r. ⌜ now r ≡ slot k (now (t .entry)) ⌝ }
+{
+    if t.len() / 192 < k {
+        return &t[..0];
+    }
+    octets::slice(t, k * 192, 192)
+}
+
+// The byte at place i, 0 past the end.
+fn byte(s: &[u8], i: usize) -> u8
+    ensures { λ r. ⌜ r ≡ getD (now (s .entry)) i 0 ⌝ }
+{
+    if s.len() <= i {
+        return 0;
+    }
+    s[i]
+}
+
+// Whether n is from lo to hi.
+fn in_range(lo: u8, hi: u8, n: u8) -> bool
+    ensures { λ r. ⌜ r ≡ within lo hi n ⌝ }
+{
+    if n < lo {
+        return false;
+    }
+    n <= hi
+}
+
+// Whether the slot s holds a session.
+pub fn is_live(s: &[u8]) -> bool
+    ensures { λ r. ⌜ r ≡ live (now (s .entry)) ⌝ }
+{
+    if byte(s, 0) != 0x5A {
+        return false;
+    }
+    if byte(s, 1) != 0x4C {
+        return false;
+    }
+    if !in_range(1, 63, byte(s, 18)) {
+        return false;
+    }
+    if !in_range(1, 32, byte(s, 82)) {
+        return false;
+    }
+    if !in_range(0, 32, byte(s, 115)) {
+        return false;
+    }
+    in_range(0, 32, byte(s, 148))
+}
+
+// Whether slot k holds a session.
+pub fn slot_live(t: &[u8], k: usize) -> bool
+    ensures { λ r. ⌜ r ≡ live (slot k (now (t .entry))) ⌝ }
+{
+    is_live(slot_of(t, k))
+}
+
+// A byte as a length.
+fn wide(x: u8) -> usize
+    ensures { λ r. ⌜ r ≡ x ⌝ }
+{
+    x as usize
+}
+
+// The text whose length stands at place i.
+pub fn text_at(s: &[u8], i: usize) -> &[u8]
+    ensures { λ r. ⌜ now r ≡ text i (now (s .entry)) ⌝ }
+{
+    if s.len() <= i {
+        return &s[..0];
+    }
+    octets::slice(s, i + 1, wide(s[i]))
+}
+
+// The bytes of a field.
+fn field_of(s: &[u8], f: Field) -> &[u8]
+    ensures { λ r. ⌜ now r ≡ fieldBytes f (now (s .entry)) ⌝ }
+{
+    match f {
+        Field::UserName => text_at(s, 18),
+        Field::NasPort => octets::slice(s, 2, 4),
+        Field::FramedAddress => octets::slice(s, 6, 4),
+        Field::CallingStation => text_at(s, 115),
+        Field::SessionId => text_at(s, 82),
+    }
+}
+
+// Whether the slot s meets the criterion c of the request p.
+fn meets_one(p: &[u8], s: &[u8], c: Criterion) -> bool
+    ensures { λ r. ⌜ r ≡ meets (now (p .entry)) (now (s .entry)) c ⌝ }
+{
+    let at = c.at;
+    let size = c.size;
+    let field = c.field;
+    octets::equal(octets::slice(p, at, size), field_of(s, field))
+}
+
+// How many criteria there are: the list has room for 5.
+fn number_of(c: Criteria) -> usize
+    ensures { λ r. ⌜ (r ≡ length (listed c)) × (r ≤ 5) ⌝ }
+{
+    let n = c.count;
+    if 5 < n {
+        return 5;
+    }
+    n
+}
+
+// Whether slot k is live and meets every criterion.
+pub fn match_slot(t: &[u8], k: usize, p: &[u8], c: Criteria) -> bool
+    ensures { λ r. ⌜ r ≡ matchesAt (now (p .entry)) (listed c) (now (t .entry)) k ⌝ }
+{
+    let s = slot_of(t, k);
+    if !is_live(s) {
+        return false;
+    }
+    let n = number_of(c);
+    let mut i = 0;
+    while i < n {
+        let one = c.list[i];
+        if !meets_one(p, s, one) {
+            return false;
+        }
+        i += 1;
+    }
+    true
 }

@@ -1,0 +1,5 @@
+pub mod Count
+pub mod Live
+pub mod Reading
+pub mod Fields
+pub mod Walk

@@ -1,0 +1,64 @@
+-- The tests that decide whether a slot is live: each that fails decides at once, since the definition is their conjunction.
+-- Assumes nothing.
+use mathlib.Core.Path.{_≡_, refl, sym, ap, _∙_}
+use mathlib.Core.Bool.{Bool, true, false, not, _&&_, and-false}
+use mathlib.Core.List.{List}
+use Prim.Native.Nat.{ℕ, _+_, _≤_, _<_}
+use native.Mathlib.Omega.{arith}
+use borrow.Author.Tests.{eq-eqb, ne-eqb, le-leb, lt-leb, not-true, not-false}
+use lib.Dec.{eqb, leb}
+use lib.ListN.{length, getD}
+use Rattle.slots.specs.Slot.{within, live, slot}
+
+pub within-below : (lo hi n : ℕ) → n < lo → false ≡ within lo hi n
+unfolding within
+within-below lo hi n h = rw (lt-leb _ _ h)
+
+pub within-above : (lo hi n : ℕ) → lo ≤ n → leb n hi ≡ within lo hi n
+unfolding within
+within-above lo hi n h = rw (le-leb _ _ h)
+
+-- a call's answer r, which is the test b, tried as `if !r`
+pub refused : (r b : Bool) → r ≡ b → not r ≡ true → b ≡ false
+refused r b e h = sym e ∙ not-true r h
+
+pub passed : (r b : Bool) → r ≡ b → not r ≡ false → b ≡ true
+passed r b e h = sym e ∙ not-false r h
+
+module _ (s : List ℕ) (x : ℕ) where
+  pub free-mark : x ≡ getD s 0 0 → (x ≡ 0x5A → ⊥) → false ≡ live s
+  unfolding live
+  free-mark e h = rw (← e, ne-eqb _ _ h)
+
+  pub free-mark2 : x ≡ getD s 1 0 → (x ≡ 0x4C → ⊥) → false ≡ live s
+  unfolding live
+  free-mark2 e h = rw (← e, ne-eqb _ _ h, and-false)
+
+  module _ (r : Bool) where
+    pub free-user : x ≡ getD s 18 0 → r ≡ within 1 63 x → not r ≡ true → false ≡ live s
+    unfolding live
+    free-user e q h = rw (← e, refused r _ q h) (simp and-false)
+
+    pub free-id : x ≡ getD s 82 0 → r ≡ within 1 32 x → not r ≡ true → false ≡ live s
+    unfolding live
+    free-id e q h = rw (← e, refused r _ q h) (simp and-false)
+
+    pub free-station : x ≡ getD s 115 0 → r ≡ within 0 32 x → not r ≡ true → false ≡ live s
+    unfolding live
+    free-station e q h = rw (← e, refused r _ q h) (simp and-false)
+
+-- all tests but the last passed: it decides
+pub live-last : (s : List ℕ) (a b u i c f : ℕ) (ru ri rc r : Bool)
+    → a ≡ getD s 0 0 → a ≡ 0x5A
+    → b ≡ getD s 1 0 → b ≡ 0x4C
+    → u ≡ getD s 18 0 → ru ≡ within 1 63 u → not ru ≡ false
+    → i ≡ getD s 82 0 → ri ≡ within 1 32 i → not ri ≡ false
+    → c ≡ getD s 115 0 → rc ≡ within 0 32 c → not rc ≡ false
+    → f ≡ getD s 148 0 → r ≡ within 0 32 f → r ≡ live s
+unfolding live
+live-last s a b u i c f ru ri rc r ea ha eb hb eu qu hu ei qi hi ec qc hc ef qf =
+    rw (← ea, eq-eqb _ _ ha, ← eb, eq-eqb _ _ hb, ← eu, passed ru _ qu hu, ← ei, passed ri _ qi hi, ← ec, passed rc _ qc hc, ← ef) qf
+
+-- the test of slot k
+pub live-at : (t s : List ℕ) (k : ℕ) (r : Bool) → r ≡ live s → s ≡ slot k t → r ≡ live (slot k t)
+live-at t s k r e g = rw (← g) e

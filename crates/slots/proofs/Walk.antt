@@ -1,0 +1,54 @@
+-- The walk over the criteria of a request: those that are left decide the answer, and one that fails decides at once.
+-- Assumes nothing.
+use mathlib.Core.Path.{_≡_, refl, sym, ap, _∙_}
+use mathlib.Core.Bool.{Bool, true, false, not, _&&_, and-false}
+use mathlib.Core.List.{List, [], _∷_, map}
+use Prim.Native.Nat.{ℕ, _+_, _≤_, _<_}
+use native.Mathlib.Numerals.{add-one}
+use native.Mathlib.Omega.{arith}
+use lib.ListN.{length, getD, take, drop, length-map, length-take, drop-of-length-le}
+use lib.Seq.{drop-cons, getD-take, length-take-le, take-all}
+use Rattle.slots.specs.declared.Criteria.{Criteria}
+use Rattle.slots.specs.declared.Criterion.{Criterion}
+use Rattle.slots.specs.Slot.{live, slot}
+use Rattle.slots.specs.Matching.{all, listed, meets, matches, matchesAt}
+use Rattle.slots.proofs.Live.{passed, refused}
+
+-- an array's length, as a function is told of it
+pub same-long : {B : Type 0} (f : Criterion → B) (l : List Criterion) (n : ℕ) → length (map f l) ≡ n → length l ≡ n
+same-long f l n e = sym (length-map l f) ∙ e
+
+module _ (c : Criteria) (long : length (c .list) ≡ 5) where
+  pub listed-five : 5 < c .count → 5 ≡ length (listed c)
+  listed-five h = rw length-take (omega arith)
+
+  pub listed-count : c .count ≤ 5 → c .count ≡ length (listed c)
+  listed-count h = rw length-take (omega arith)
+
+-- the answer before the walk: s is slot k, and r whether it is live
+module _ (p t s : List ℕ) (c : Criteria) (k : ℕ) (r : Bool) (e : r ≡ live s) (here : s ≡ slot k t) where
+  pub walk-free : not r ≡ true → false ≡ matchesAt p (listed c) t k
+  unfolding matches
+  walk-free h = rw (← here, refused r _ e h)
+
+  pub walk-starts : not r ≡ false → matchesAt p (listed c) t k ≡ all (meets p s) (listed c)
+  unfolding matches
+  walk-starts h = rw (← here, passed r _ e h)
+
+step : (f : Criterion → Bool) (c : Criteria) (i : ℕ) (d : Criterion) → i < length (listed c)
+    → all f (drop i (listed c)) ≡ (f (getD (c .list) i d) && all f (drop (i + 1) (listed c)))
+step f c i d h =
+    let g : i < c .count = omega (arith, length-take (c .count) (c .list)) in
+    rw (add-one, drop-cons (listed c) i d h, getD-take (c .count) (c .list) i d g)
+
+-- n criteria, of which those from i on are left; b is the whole answer, r that of criterion i
+module _ (p s : List ℕ) (c : Criteria) (b : Bool) (i n : ℕ) (left : b ≡ all (meets p s) (drop i (listed c))) (long : n ≡ length (listed c)) where
+  pub walk-ends : n ≤ i → true ≡ b
+  walk-ends h = sym (left ∙ rw (drop-of-length-le (listed c) {i = i} (rw (← long) h)))
+
+  module _ (r : Bool) (d : Criterion) (e : r ≡ meets p s (getD (c .list) i d)) (h : i < n) where
+    pub walk-fails : not r ≡ true → false ≡ b
+    walk-fails g = sym (left ∙ step (meets p s) c i d (rw (← long) h) ∙ rw (refused r _ e g))
+
+    pub walk-next : not r ≡ false → b ≡ all (meets p s) (drop (i + 1) (listed c))
+    walk-next g = left ∙ step (meets p s) c i d (rw (← long) h) ∙ rw (passed r _ e g)
