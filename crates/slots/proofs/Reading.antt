@@ -2,9 +2,9 @@
 -- Assumes nothing.
 use mathlib.Core.Path.{_≡_, refl, sym, ap, _∙_}
 use mathlib.Core.List.{List}
-use Prim.Native.Nat.{ℕ, _+_, _*_, _/_, _≤_, _<_}
+use Prim.Native.Nat.{ℕ, _+_, _*_, _/_, _-_, _≤_, _<_}
 use native.Mathlib.Omega.{arith}
-use lib.ListN.{length, getD, take, List·getD-eq-default}
+use lib.ListN.{length, getD, take, drop, List·getD-eq-default}
 use Rattle.octets.specs.Runs.{part}
 use Rattle.octets.proofs.Part.{part-past, part-of}
 use Rattle.slots.specs.Slot.{slot, text, live}
@@ -16,6 +16,11 @@ slot-past t k h = part-past (k * 192) 192 t (omega arith)
 pub slot-part : (t s : List ℕ) (k : ℕ) → s ≡ part (k * 192) 192 t → s ≡ slot k t
 unfolding slot
 slot-part t s k e = e
+
+-- the code's `&t[a..a + 192]`
+pub slot-whole : (t : List ℕ) (k : ℕ) → take (k * 192 + 192 - k * 192) (drop (k * 192) t) ≡ slot k t
+unfolding slot
+slot-whole t k = part-of (k * 192) 192 t
 
 pub text-past : (s : List ℕ) (i : ℕ) → length s ≤ i → take 0 s ≡ text i s
 unfolding text

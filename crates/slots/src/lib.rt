@@ -171,3 +171,42 @@ pub fn match_slot(t: &[u8], k: usize, p: &[u8], c: Criteria) -> bool
     }
     true
 }
+
+// Slot k, where it lies in the table whole.
+fn whole_slot(t: &[u8], k: usize) -> &[u8]
+    requires { ⌜ (k + 1) * 192 ≤ length (now t) ⌝ }
+    ensures { λ r. ⌜ now r ≡ slot k (now (t .entry)) ⌝ }
+{
+    let a = k * 192;
+    &t[a..a + 192]
+}
+
+// The marks of all slots: 1 for each that is live and meets every criterion.
+pub fn mark_all(t: &[u8], p: &[u8], c: Criteria) -> [u8; 64]
+    ensures { λ r. ⌜ r ≡ marksAfter (matchesAt (now (p .entry)) (listed c) (now (t .entry))) (slotCount (now (t .entry))) ⌝ }
+{
+    let slots = slot_count(t);
+    let n = number_of(c);
+    let mut marks = [0u8; 64];
+    let mut k = 0;
+    while k < slots {
+        let s = whole_slot(t, k);
+        'slot: loop {
+            if !is_live(s) {
+                break 'slot;
+            }
+            let mut i = 0;
+            while i < n {
+                let one = c.list[i];
+                if !meets_one(p, s, one) {
+                    break 'slot;
+                }
+                i += 1;
+            }
+            marks[k] = 1;
+            break 'slot;
+        }
+        k += 1;
+    }
+    marks
+}
