@@ -5,3 +5,5 @@ pub mod Fields
 pub mod Walk
 pub mod Marks
 pub mod Turns
+pub mod Overwrite
+pub mod Places

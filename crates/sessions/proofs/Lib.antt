@@ -1,0 +1,4 @@
+pub mod Put
+pub mod Alter
+pub mod Slots
+pub mod Turns
