@@ -24,6 +24,19 @@ pub record Session : Type 0 where
   pub station : List ℕ
   pub filter : List ℕ
 
+-- the session of these fields
+abbrev pub sessionOf : ℕ → ℕ → ℕ → ℕ → List ℕ → List ℕ → List ℕ → List ℕ → Session
+sessionOf port address timeout idle user id station filter = record {
+  port = port;
+  address = address;
+  timeout = timeout;
+  idle = idle;
+  user = user;
+  id = id;
+  station = station;
+  filter = filter;
+}
+
 -- all 192 bytes of its slot
 unfoldable pub recordOf : Session → List ℕ
 recordOf x =

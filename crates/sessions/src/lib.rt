@@ -1,6 +1,7 @@
 // What is written to the session table: sessions ended, altered, recorded.
 mod fields;
-
+mod records;
+mod search;
 
 
 ghost use mathlib.Core.Path.{_≡_};
@@ -9,7 +10,7 @@ ghost use lib.ListN.{length, replicate};
 ghost use Rattle.octets.specs.Runs.{write};
 ghost use Rattle.slots.specs.Slot.{slotCount, slot};
 ghost use Rattle.sessions.specs.Change.{altered, changeAt, marked, changeMarked, countMarked};
-ghost use Rattle.sessions.specs.Session.{insertAnswer, insertTable, removeAnswer, removeTable};
+ghost use Rattle.sessions.specs.Session.{sessionOf, insertAnswer, insertTable, removeAnswer, removeTable};
 
 // A number that a CoA sets, or not.
 pub enum Number {
@@ -61,13 +62,21 @@ fn alter_slot(t: &mut [u8], k: usize, p: &[u8], a: Alteration)
     fields::set_text(t, at + 148, p, filter);
 }
 
+// Ends slot k: all its bytes are zero.
+fn end_slot(t: &mut [u8], k: usize)
+    requires { ⌜ (k + 1) * 192 ≤ length (now t) ⌝ }
+    ensures { λ _. ⌜ now (t .exit) ≡ write (now (t .entry)) (k * 192) (replicate 192 0) ⌝ }
+{
+    octets::fill(t, k * 192, 192, 0);
+}
+
 // Ends or alters slot k.
 fn change_slot(t: &mut [u8], k: usize, p: &[u8], c: Change)
     requires { ⌜ (k + 1) * 192 ≤ length (now t) ⌝ }
     ensures { λ _. ⌜ now (t .exit) ≡ changeAt (now (p .entry)) c k (now (t .entry)) ⌝ }
 {
     match c {
-        Change::End => octets::fill(t, k * 192, 192, 0),
+        Change::End => end_slot(t, k),
         Change::Alter(a) => alter_slot(t, k, p, a),
     }
 }
@@ -99,4 +108,56 @@ pub fn change_marked(t: &mut [u8], p: &[u8], marks: &[u8; 64], c: Change) -> usi
         k += 1;
     }
     count
+}
+
+// Records a session in the lowest free slot.
+pub fn insert(
+    t: &mut [u8],
+    port: u32,
+    address: u32,
+    timeout: u32,
+    idle: u32,
+    user: &[u8],
+    id: &[u8],
+    station: &[u8],
+    filter: &[u8],
+) -> Inserted
+    ensures { λ r. ⌜ r ≡ insertAnswer (sessionOf port address timeout idle (now (user .entry)) (now (id .entry)) (now (station .entry)) (now (filter .entry))) (now (t .entry)) ⌝ }
+    ensures { λ _. ⌜ now (t .exit) ≡ insertTable (sessionOf port address timeout idle (now (user .entry)) (now (id .entry)) (now (station .entry)) (now (filter .entry))) (now (t .entry)) ⌝ }
+{
+    let n = slots::slot_count(t);
+    if n == 0 {
+        return Inserted::NotInserted(1);
+    }
+    if !records::fits_record(user, id, station, filter) {
+        return Inserted::NotInserted(8);
+    }
+    if search::id_live(t, n, id) {
+        return Inserted::NotInserted(9);
+    }
+    let k = search::lowest_free(t, n);
+    if k == n {
+        return Inserted::NotInserted(10);
+    }
+    records::put_record(t, k, port, address, timeout, idle, user, id, station, filter);
+    Inserted::Slot(k)
+}
+
+// Ends the session of slot k.
+pub fn remove(t: &mut [u8], k: usize) -> Removed
+    ensures { λ r. ⌜ r ≡ removeAnswer k (now (t .entry)) ⌝ }
+    ensures { λ _. ⌜ now (t .exit) ≡ removeTable k (now (t .entry)) ⌝ }
+{
+    let n = slots::slot_count(t);
+    if n == 0 {
+        return Removed::NotRemoved(1);
+    }
+    if n <= k {
+        return Removed::NotRemoved(11);
+    }
+    if !slots::slot_live(t, k) {
+        return Removed::NotRemoved(11);
+    }
+    end_slot(t, k);
+    Removed::Gone
 }

@@ -45,6 +45,9 @@ counted-is n t e = rw e (counted t)
 pub slot-fits : (t : List ℕ) (k : ℕ) → k < slotCount t → (k + 1) * 192 ≤ length t
 slot-fits t k h = let c = counted t in omega arith
 
+pub slot-lies : (t : List ℕ) (k n : ℕ) → n ≡ slotCount t → k < n → (k + 1) * 192 ≤ length t
+slot-lies t k n e h = slot-fits t k (rw (← e) h)
+
 -- the length alone decides
 pub count-same : (t u : List ℕ) → length t ≡ length u → slotCount t ≡ slotCount u
 unfolding slotCount

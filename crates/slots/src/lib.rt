@@ -52,18 +52,25 @@ pub fn slot_of(t: &[u8], k: usize) -> &[u8]
     octets::slice(t, k * 192, 192)
 }
 
+// A byte as a number of the machine's width.
+fn wide(x: u8) -> usize
+    ensures { λ r. ⌜ r ≡ x ⌝ }
+{
+    x as usize
+}
+
 // The byte at place i, 0 past the end.
-fn byte(s: &[u8], i: usize) -> u8
+fn byte(s: &[u8], i: usize) -> usize
     ensures { λ r. ⌜ r ≡ getD (now (s .entry)) i 0 ⌝ }
 {
     if s.len() <= i {
         return 0;
     }
-    s[i]
+    wide(s[i])
 }
 
 // Whether n is from lo to hi.
-fn in_range(lo: u8, hi: u8, n: u8) -> bool
+pub fn in_range(lo: usize, hi: usize, n: usize) -> bool
     ensures { λ r. ⌜ r ≡ within lo hi n ⌝ }
 {
     if n < lo {
@@ -101,13 +108,6 @@ pub fn slot_live(t: &[u8], k: usize) -> bool
     is_live(slot_of(t, k))
 }
 
-// A byte as a length.
-fn wide(x: u8) -> usize
-    ensures { λ r. ⌜ r ≡ x ⌝ }
-{
-    x as usize
-}
-
 // The text whose length stands at place i.
 pub fn text_at(s: &[u8], i: usize) -> &[u8]
     ensures { λ r. ⌜ now r ≡ text i (now (s .entry)) ⌝ }
@@ -115,7 +115,7 @@ pub fn text_at(s: &[u8], i: usize) -> &[u8]
     if s.len() <= i {
         return &s[..0];
     }
-    octets::slice(s, i + 1, wide(s[i]))
+    octets::slice(s, i + 1, byte(s, i))
 }
 
 // The bytes of a field.
