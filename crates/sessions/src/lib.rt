@@ -3,7 +3,6 @@ mod fields;
 mod records;
 mod search;
 
-
 ghost use mathlib.Core.Path.{_≡_};
 ghost use Prim.Native.Nat.{_+_, _*_, _≤_, _<_};
 ghost use lib.ListN.{length, replicate};
@@ -139,7 +138,18 @@ pub fn insert(
     if k == n {
         return Inserted::NotInserted(10);
     }
-    records::put_record(t, k, port, address, timeout, idle, user, id, station, filter);
+    records::put_record(
+        t,
+        k,
+        port,
+        address,
+        timeout,
+        idle,
+        user,
+        id,
+        station,
+        filter,
+    );
     Inserted::Slot(k)
 }
 

@@ -24,7 +24,7 @@ change-slot-requires : tie.Need-change-slot-requires Inv-loop μ-loop
 change-slot-requires c κs = search (needs, walk-fits)
 
 loop-again : tie.Need-loop-again Inv-loop μ-loop
-loop-again c = 
+loop-again c =
     ⊎-elim
     (λ w. search (needs, turn-changed, turn-counted))
     (λ w. search (needs, turn-kept, turn-passed))

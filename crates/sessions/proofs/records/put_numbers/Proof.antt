@@ -7,7 +7,7 @@ use Rattle.sessions.proofs.records.put_numbers.Statement.{statement}
 use Rattle.sessions.proofs.records.put_numbers.Tie as tie
 
 returns : tie.Need-returns
-returns c = 
+returns c =
     let e = c .before .before in
     let d = e .before .before .before .before in
     let b = d .before .before .before .before in

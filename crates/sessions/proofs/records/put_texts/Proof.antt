@@ -6,7 +6,7 @@ use Rattle.sessions.proofs.records.put_texts.Statement.{statement}
 use Rattle.sessions.proofs.records.put_texts.Tie as tie
 
 returns : tie.Need-returns
-returns c = 
+returns c =
     let zeros = c .before .before in
     let filter = zeros .before .before .before .before in
     let station = filter .before .before .before .before in
