@@ -7,3 +7,5 @@ pub mod Marks
 pub mod Turns
 pub mod Overwrite
 pub mod Places
+pub mod Kept
+pub mod Marked
