@@ -5,3 +5,8 @@ pub mod Turns
 pub mod Record
 pub mod Free
 pub mod Answers
+pub mod Changed
+pub mod Texts
+pub mod Kept
+pub mod Written
+pub mod Pieces

@@ -27,7 +27,7 @@ unfolding changed
 length-changed p End s h = length-replicate {A = ℕ} 192 0
 length-changed p (Alter a) s h = length-altered p a s ∙ h
 
-changed-short : (p : List ℕ) (c : Change) (s : List ℕ) → length s ≤ 192 → length (changed p c s) ≤ 192
+pub changed-short : (p : List ℕ) (c : Change) (s : List ℕ) → length s ≤ 192 → length (changed p c s) ≤ 192
 unfolding changed
 changed-short p End s h = rw length-replicate (omega arith)
 changed-short p (Alter a) s h = rw (length-altered p a s) h
@@ -64,7 +64,7 @@ module _ (p : List ℕ) (c : Change) where
     length-changeMarked zero t = refl
     length-changeMarked (suc k) t = long-by (marked marks t k) k (changeMarked p c marks k t) ∙ length-changeMarked k t
 
-    other-by : (b : Bool) (j k : ℕ) (u : List ℕ) → (j ≡ k → ⊥) → slot j (cond b (changeAt p c k u) u) ≡ slot j u
+    pub other-by : (b : Bool) (j k : ℕ) (u : List ℕ) → (j ≡ k → ⊥) → slot j (cond b (changeAt p c k u) u) ≡ slot j u
     other-by true j k u n = change-other j k u n
     other-by false j k u n = refl
 

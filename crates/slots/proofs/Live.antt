@@ -5,9 +5,10 @@ use mathlib.Core.Bool.{Bool, true, false, not, _&&_, and-false}
 use mathlib.Core.List.{List}
 use Prim.Native.Nat.{ℕ, _+_, _≤_, _<_}
 use native.Mathlib.Omega.{arith}
-use borrow.Author.Tests.{eq-eqb, ne-eqb, le-leb, lt-leb, not-true, not-false}
+use borrow.Author.Tests.{eq-eqb, ne-eqb, le-leb, lt-leb, leb-true, not-true, not-false}
 use lib.Dec.{eqb, leb}
 use lib.ListN.{length, getD}
+use Rattle.octets.proofs.Equality.{and-both}
 use Rattle.slots.specs.Slot.{within, live, slot}
 
 pub within-below : (lo hi n : ℕ) → n < lo → false ≡ within lo hi n
@@ -17,6 +18,14 @@ within-below lo hi n h = rw (lt-leb _ _ h)
 pub within-above : (lo hi n : ℕ) → lo ≤ n → leb n hi ≡ within lo hi n
 unfolding within
 within-above lo hi n h = rw (le-leb _ _ h)
+
+pub within-is : (lo hi n : ℕ) → lo ≤ n → n ≤ hi → within lo hi n ≡ true
+unfolding within
+within-is lo hi n h g = rw (le-leb _ _ h, le-leb _ _ g)
+
+pub within-high : (lo hi n : ℕ) → within lo hi n ≡ true → n ≤ hi
+unfolding within
+within-high lo hi n h = leb-true _ _ (and-both (leb lo n) (leb n hi) h .1)
 
 -- a call's answer r, which is the test b, tried as `if !r`
 pub refused : (r b : Bool) → r ≡ b → not r ≡ true → b ≡ false
