@@ -79,7 +79,27 @@ module _ (t : List ℕ) (r k n : ℕ) (e : r ≡ freeFrom t k (n - k)) where
 pub free-start : (t : List ℕ) (n : ℕ) → freeFrom t 0 n ≡ freeFrom t 0 (n - 0)
 free-start t n = ap (freeFrom t 0) (omega arith)
 
--- ---- the slot found lies in the table
+-- ---- the slot found is free, and those before it are live
+
+free-by : (t : List ℕ) (b : Bool) (k a n : ℕ) → live (slot k t) ≡ b → (cond b a k ≡ k + suc n → ⊥) → ((a ≡ suc k + n → ⊥) → live (slot a t) ≡ false) → live (slot (cond b a k) t) ≡ false
+free-by t true k a n e h g = g (λ q. h (omega arith))
+free-by t false k a n e h g = e
+
+pub found-free : (t : List ℕ) (k n : ℕ) → (freeFrom t k n ≡ k + n → ⊥) → live (slot (freeFrom t k n) t) ≡ false
+unfolding freeFrom
+found-free t k zero h = absurd (h (omega arith))
+found-free t k (suc n) h = free-by t (live (slot k t)) k (freeFrom t (suc k) n) n refl h (found-free t (suc k) n)
+
+lower-by : (t : List ℕ) (b : Bool) (i k a : ℕ) → live (slot k t) ≡ b → k ≤ i → i < cond b a k → (suc k ≤ i → i < a → live (slot i t) ≡ true) → live (slot i t) ≡ true
+lower-by t true i k a e h l g = ⊎-elim (λ (q : k ≡ i). rw (← q) e) (λ (q : k < i). g q l) (eq-or-lt-of-le h)
+lower-by t false i k a e h l g = absurd (omega arith)
+
+pub lower-live : (t : List ℕ) (k n i : ℕ) → k ≤ i → i < freeFrom t k n → live (slot i t) ≡ true
+unfolding freeFrom
+lower-live t k zero i h l = absurd (omega arith)
+lower-live t k (suc n) i h l = lower-by t (live (slot k t)) i k (freeFrom t (suc k) n) refl h l (lower-live t (suc k) n i)
+
+-- ---- it lies in the table
 
 most-by : (b : Bool) (a k n : ℕ) → a ≤ k + suc n → cond b a k ≤ k + suc n
 most-by true a k n h = h

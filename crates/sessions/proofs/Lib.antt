@@ -10,3 +10,6 @@ pub mod Texts
 pub mod Kept
 pub mod Written
 pub mod Pieces
+pub mod Recorded
+pub mod Starts
+pub mod Ends

@@ -34,10 +34,10 @@ live-kept s i vs a b c d e f =
     live-by s (write s i vs) (byte-kept s i vs 0 a) (byte-kept s i vs 1 b) (byte-kept s i vs 18 c) (byte-kept s i vs 82 d) (byte-kept s i vs 115 e)
     (ap (within 0 32) (byte-kept s i vs 148 f))
 
-and-left : (a b : Bool) → a && b ≡ true → a ≡ true
+pub and-left : (a b : Bool) → a && b ≡ true → a ≡ true
 and-left a b h = and-both a b h .0
 
-and-right : (a b : Bool) → a && b ≡ true → b ≡ true
+pub and-right : (a b : Bool) → a && b ≡ true → b ≡ true
 and-right a b h = and-both a b h .1
 
 -- the lengths of a live slot's texts
