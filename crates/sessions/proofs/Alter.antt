@@ -9,6 +9,8 @@ use Rattle.octets.specs.Numbers.{beBytes}
 use Rattle.octets.specs.Runs.{part, write}
 use Rattle.octets.proofs.Numbers.{length-beBytes}
 use Rattle.octets.proofs.Write.{length-write}
+use Rattle.records.specs.Record.{textField}
+use Rattle.records.proofs.Fields.{length-textField}
 use Rattle.slots.specs.Slot.{slot}
 use Rattle.slots.proofs.Overwrite.{write-in}
 use Rattle.slots.proofs.Places.{slot-same, length-slot}
@@ -17,13 +19,7 @@ use Rattle.sessions.specs.declared.Number.{Number}
 use Rattle.sessions.specs.declared.Number.the-variants.{Keep, Set}
 use Rattle.sessions.specs.declared.Text.{Text}
 use Rattle.sessions.specs.declared.Text.the-variants.{Same, Value}
-use Rattle.sessions.specs.Change.{textField, setNumber, setText, altered}
-
-pub length-textField : (cap : ℕ) (v : List ℕ) → length (textField cap v) ≡ cap + 1
-unfolding textField
-length-textField cap v =
-    let l : length (take cap v) ≤ cap = rw length-take (omega arith) in
-    simp (length-append, length-replicate) (omega arith)
+use Rattle.sessions.specs.Change.{setNumber, setText, altered}
 
 pub length-setNumber : (x : Number) (i : ℕ) (s : List ℕ) → length (setNumber x i s) ≡ length s
 unfolding setNumber

@@ -12,6 +12,8 @@ use Rattle.octets.specs.Numbers.{beBytes}
 use Rattle.octets.specs.Runs.{part, write, equalBytes}
 use Rattle.octets.proofs.Numbers.{length-beBytes}
 use Rattle.octets.proofs.Part.{byte-part, part-before, part-behind}
+use Rattle.records.specs.Record.{textField}
+use Rattle.records.proofs.Fields.{length-textField}
 use Rattle.slots.specs.declared.Criterion.{Criterion}
 use Rattle.slots.specs.declared.Field.{Field}
 use Rattle.slots.specs.declared.Field.the-variants.{UserName, NasPort, FramedAddress, CallingStation, SessionId}
@@ -24,9 +26,9 @@ use Rattle.sessions.specs.declared.Number.{Number}
 use Rattle.sessions.specs.declared.Number.the-variants.{Keep, Set}
 use Rattle.sessions.specs.declared.Text.{Text}
 use Rattle.sessions.specs.declared.Text.the-variants.{Same, Value}
-use Rattle.sessions.specs.Change.{textField, setNumber, setText, altered}
-use Rattle.sessions.proofs.Alter.{length-textField, length-setNumber}
-use Rattle.sessions.proofs.Texts.{field-written, head-there}
+use Rattle.sessions.specs.Change.{setNumber, setText, altered}
+use Rattle.sessions.proofs.Alter.{length-setNumber}
+use Rattle.records.proofs.Texts.{field-written, head-there}
 
 -- a byte is a part of one
 same-byte : (l m : List ℕ) (j : ℕ) → part j 1 l ≡ part j 1 m → getD l j 0 ≡ getD m j 0

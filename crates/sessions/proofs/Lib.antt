@@ -2,14 +2,10 @@ pub mod Put
 pub mod Alter
 pub mod Slots
 pub mod Turns
-pub mod Record
 pub mod Free
 pub mod Answers
 pub mod Changed
-pub mod Texts
 pub mod Kept
 pub mod Written
-pub mod Pieces
-pub mod Recorded
 pub mod Starts
 pub mod Ends

@@ -10,6 +10,7 @@ use lib.ListN.{length, getD, take}
 use Rattle.octets.specs.Numbers.{be, beBytes}
 use Rattle.octets.specs.Runs.{part, write}
 use Rattle.octets.proofs.Numbers.{length-beBytes, be-before, be-behind, be-written}
+use Rattle.records.specs.Record.{textField}
 use Rattle.slots.specs.Slot.{live, text, sessionTimeout, idleTimeout, filterId}
 use Rattle.slots.proofs.Kept.{text-behind}
 use Rattle.sessions.specs.declared.Alteration.{Alteration}
@@ -18,9 +19,9 @@ use Rattle.sessions.specs.declared.Number.{Number}
 use Rattle.sessions.specs.declared.Number.the-variants.{Keep, Set}
 use Rattle.sessions.specs.declared.Text.{Text}
 use Rattle.sessions.specs.declared.Text.the-variants.{Same, Value}
-use Rattle.sessions.specs.Change.{textField, setNumber, setText, altered, changed}
-use Rattle.sessions.proofs.Alter.{length-textField, length-setNumber}
-use Rattle.sessions.proofs.Texts.{field-written, text-there}
+use Rattle.sessions.specs.Change.{setNumber, setText, altered, changed}
+use Rattle.sessions.proofs.Alter.{length-setNumber}
+use Rattle.records.proofs.Texts.{field-written, text-there}
 
 pub ended-free : (p s : List ℕ) → live (changed p End s) ≡ false
 unfolding changed live

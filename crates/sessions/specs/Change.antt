@@ -7,6 +7,7 @@ use lib.Dec.{eqb}
 use lib.ListN.{length, getD, take, replicate}
 use Rattle.octets.specs.Numbers.{beBytes}
 use Rattle.octets.specs.Runs.{part, write}
+use Rattle.records.specs.Record.{textField}
 use Rattle.slots.specs.Slot.{live, slot}
 use Rattle.slots.specs.Marks.{countTo}
 use Rattle.sessions.specs.declared.Change.{Change}
@@ -16,10 +17,6 @@ use Rattle.sessions.specs.declared.Number.{Number}
 use Rattle.sessions.specs.declared.Number.the-variants.{Keep, Set}
 use Rattle.sessions.specs.declared.Text.{Text}
 use Rattle.sessions.specs.declared.Text.the-variants.{Same, Value}
-
--- a text field of 1 + cap bytes: length, value, zeros. Causes 404 and 506 and refusal R8 keep a value to cap bytes; of a longer one the first cap are taken.
-unfoldable pub textField : ℕ → List ℕ → List ℕ
-textField cap v = length (take cap v) ∷ take cap v ++ replicate (cap - length (take cap v)) 0
 
 -- all 32 bits of a number, where the request names it
 unfoldable pub setNumber : Number → ℕ → List ℕ → List ℕ

@@ -1,59 +1,17 @@
--- The record of a session, where a new one goes, and what can refuse it (document 01, R1 and R8 to R11).
+-- Where a new session goes, what can refuse it, and a session's end (document 01, R1 and R8 to R11).
 -- Assumes nothing.
 use mathlib.Core.Bool.{Bool, true, false, _&&_, _||_, not, cond}
 use mathlib.Core.List.{List, [], _∷_, _++_}
 use Prim.Native.Nat.{ℕ, zero, suc, _*_}
 use lib.Dec.{eqb, ltb}
 use lib.ListN.{length, replicate}
-use Rattle.octets.specs.Numbers.{beBytes}
 use Rattle.octets.specs.Runs.{write, equalBytes}
 use Rattle.slots.specs.Slot.{slotCount, slot, live, within, sessionId}
 use Rattle.sessions.specs.declared.Inserted.{Inserted}
 use Rattle.sessions.specs.declared.Inserted.the-variants.{Slot, NotInserted}
 use Rattle.sessions.specs.declared.Removed.{Removed}
 use Rattle.sessions.specs.declared.Removed.the-variants.{Gone, NotRemoved}
-use Rattle.sessions.specs.Change.{textField}
-
-pub record Session : Type 0 where
-  pub port : ℕ
-  pub address : ℕ
-  pub timeout : ℕ
-  pub idle : ℕ
-  pub user : List ℕ
-  pub id : List ℕ
-  pub station : List ℕ
-  pub filter : List ℕ
-
--- the session of these fields
-abbrev pub sessionOf : ℕ → ℕ → ℕ → ℕ → List ℕ → List ℕ → List ℕ → List ℕ → Session
-sessionOf port address timeout idle user id station filter = record {
-  port = port;
-  address = address;
-  timeout = timeout;
-  idle = idle;
-  user = user;
-  id = id;
-  station = station;
-  filter = filter;
-}
-
--- all 192 bytes of its slot
-unfoldable pub recordOf : Session → List ℕ
-recordOf x =
-    (0x5A ∷ 0x4C ∷ [])
-    ++ beBytes 4 (x .port)
-    ++ beBytes 4 (x .address)
-    ++ beBytes 4 (x .timeout)
-    ++ beBytes 4 (x .idle)
-    ++ textField 63 (x .user)
-    ++ textField 32 (x .id)
-    ++ textField 32 (x .station)
-    ++ textField 32 (x .filter)
-    ++ replicate 11 0
-
--- R8: a text's length outside the record's limits
-unfoldable pub fitsRecord : Session → Bool
-fitsRecord x = within 1 63 (length (x .user)) && (within 1 32 (length (x .id)) && (within 0 32 (length (x .station)) && within 0 32 (length (x .filter))))
+use Rattle.records.specs.Record.{Session, recordOf, fitsRecord}
 
 -- R9: one of the first k slots is live with this Acct-Session-Id
 unfoldable pub idLive : List ℕ → List ℕ → ℕ → Bool

@@ -1,15 +1,15 @@
 // What is written to the session table: sessions ended, altered, recorded.
 mod fields;
-mod records;
 mod search;
 
 ghost use mathlib.Core.Path.{_≡_};
 ghost use Prim.Native.Nat.{_+_, _*_, _≤_, _<_};
 ghost use lib.ListN.{length, replicate};
 ghost use Rattle.octets.specs.Runs.{write};
+ghost use Rattle.records.specs.Record.{sessionOf};
 ghost use Rattle.slots.specs.Slot.{slotCount, slot};
 ghost use Rattle.sessions.specs.Change.{altered, changeAt, marked, changeMarked, countMarked};
-ghost use Rattle.sessions.specs.Session.{sessionOf, insertAnswer, insertTable, removeAnswer, removeTable};
+ghost use Rattle.sessions.specs.Session.{insertAnswer, insertTable, removeAnswer, removeTable};
 
 // A number that a CoA sets, or not.
 pub enum Number {

@@ -12,9 +12,9 @@ use Rattle.octets.specs.Runs.{write}
 use Rattle.octets.proofs.Numbers.{length-beBytes}
 use Rattle.octets.proofs.Write.{write-then, write-cons, write-one}
 use Rattle.slots.proofs.Live.{passed, refused}
-use Rattle.sessions.specs.Change.{textField}
-use Rattle.sessions.specs.Session.{Session, recordOf}
-use Rattle.sessions.proofs.Alter.{length-textField}
+use Rattle.records.specs.Record.{textField}
+use Rattle.records.specs.Record.{Session, recordOf}
+use Rattle.records.proofs.Fields.{length-textField}
 
 -- a conjunction by its first test, whose answer r was tried as `if !r`
 pub and-fails : (r a b : Bool) → r ≡ a → not r ≡ true → false ≡ a && b

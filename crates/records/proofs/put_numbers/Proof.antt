@@ -1,10 +1,10 @@
--- `sessions::records::put_numbers` meets its contract: each write begins where the one before ended.
+-- `records::put_numbers` meets its contract: each write begins where the one before ended.
 -- Assumes nothing.
 use mathlib.Core.Path.{refl}
-use Rattle.sessions.proofs.Record.{numbers-written}
+use Rattle.records.proofs.Chain.{numbers-written}
 use borrow.Author.Needs.{needs}
-use Rattle.sessions.proofs.records.put_numbers.Statement.{statement}
-use Rattle.sessions.proofs.records.put_numbers.Tie as tie
+use Rattle.records.proofs.put_numbers.Statement.{statement}
+use Rattle.records.proofs.put_numbers.Tie as tie
 
 returns : tie.Need-returns
 returns c =

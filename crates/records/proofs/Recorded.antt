@@ -14,11 +14,11 @@ use Rattle.octets.proofs.Write.{write-whole}
 use Rattle.slots.specs.Slot.{live, within, text, nasPort, framedAddress, sessionTimeout, idleTimeout, userName, sessionId, callingStation, filterId}
 use Rattle.slots.proofs.Kept.{and-left, and-right}
 use Rattle.slots.proofs.Live.{within-high}
-use Rattle.sessions.specs.Change.{textField}
-use Rattle.sessions.specs.Session.{Session, recordOf, fitsRecord}
-use Rattle.sessions.proofs.Alter.{length-textField}
-use Rattle.sessions.proofs.Texts.{head-there, text-there, take-fits}
-use Rattle.sessions.proofs.Pieces.{Sized, piece-port, piece-address, piece-timeout, piece-idle, piece-user, piece-id, piece-station, piece-filter, pieces-length}
+use Rattle.records.specs.Record.{textField}
+use Rattle.records.specs.Record.{Session, recordOf, fitsRecord}
+use Rattle.records.proofs.Fields.{length-textField}
+use Rattle.records.proofs.Texts.{head-there, text-there, take-fits}
+use Rattle.records.proofs.Pieces.{Sized, piece-port, piece-address, piece-timeout, piece-idle, piece-user, piece-id, piece-station, piece-filter, pieces-length}
 
 bytes-read : (v : ℕ) → v < 2 ^ 32 → be 0 4 (beBytes 4 v) ≡ v
 bytes-read v h =

@@ -1,9 +1,9 @@
--- `sessions::records::fits_record` meets its contract: a text that does not fit decides, and where three fit the fourth does.
+-- `records::fits_record` meets its contract: a text that does not fit decides, and where three fit the fourth does.
 -- Assumes nothing.
-use Rattle.sessions.proofs.Record.{and-fails, and-next}
+use Rattle.records.proofs.Chain.{and-fails, and-next}
 use borrow.Author.Needs.{needs}
-use Rattle.sessions.proofs.records.fits_record.Statement.{statement}
-use Rattle.sessions.proofs.records.fits_record.Tie as tie
+use Rattle.records.proofs.fits_record.Statement.{statement}
+use Rattle.records.proofs.fits_record.Tie as tie
 
 returns : tie.Need-returns
 returns c = search (needs, and-fails)

@@ -1,9 +1,9 @@
--- `sessions::records::put_record` meets its contract: the texts begin where the numbers end.
+-- `records::put_record` meets its contract: the texts begin where the numbers end.
 -- Assumes nothing.
-use Rattle.sessions.proofs.Record.{record-written}
+use Rattle.records.proofs.Chain.{record-written}
 use borrow.Author.Needs.{needs}
-use Rattle.sessions.proofs.records.put_record.Statement.{statement}
-use Rattle.sessions.proofs.records.put_record.Tie as tie
+use Rattle.records.proofs.put_record.Statement.{statement}
+use Rattle.records.proofs.put_record.Tie as tie
 
 returns : tie.Need-returns
 returns c = search (needs, record-written)

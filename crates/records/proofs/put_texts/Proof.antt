@@ -1,9 +1,9 @@
--- `sessions::records::put_texts` meets its contract: each write begins where the one before ended.
+-- `records::put_texts` meets its contract: each write begins where the one before ended.
 -- Assumes nothing.
-use Rattle.sessions.proofs.Record.{texts-written}
+use Rattle.records.proofs.Chain.{texts-written}
 use borrow.Author.Needs.{needs}
-use Rattle.sessions.proofs.records.put_texts.Statement.{statement}
-use Rattle.sessions.proofs.records.put_texts.Tie as tie
+use Rattle.records.proofs.put_texts.Statement.{statement}
+use Rattle.records.proofs.put_texts.Tie as tie
 
 returns : tie.Need-returns
 returns c =

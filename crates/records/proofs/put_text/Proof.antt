@@ -1,9 +1,9 @@
--- `sessions::fields::put_text` meets its contract: length, value and zeros go one behind the other.
+-- `records::put_text` meets its contract: length, value and zeros go one behind the other.
 -- Assumes nothing.
-use Rattle.sessions.proofs.Put.{kept-low, kept-short, kept-fits, zeros-fit, text-long, text-written}
+use Rattle.records.proofs.Fields.{kept-low, kept-short, kept-fits, zeros-fit, text-long, text-written}
 use borrow.Author.Needs.{needs}
-use Rattle.sessions.proofs.fields.put_text.Statement.{statement}
-use Rattle.sessions.proofs.fields.put_text.Tie as tie
+use Rattle.records.proofs.put_text.Statement.{statement}
+use Rattle.records.proofs.put_text.Tie as tie
 
 low-requires : tie.Need-low-requires
 low-requires c κs = search (needs, kept-low)

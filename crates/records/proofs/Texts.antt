@@ -10,8 +10,8 @@ use lib.Seq.{take-nil, drop-nil, take-all, take-take, take-append-seam, drop-dro
 use Rattle.octets.specs.Runs.{part, write}
 use Rattle.octets.proofs.Part.{byte-part, part-written}
 use Rattle.slots.specs.Slot.{text}
-use Rattle.sessions.specs.Change.{textField}
-use Rattle.sessions.proofs.Alter.{length-textField}
+use Rattle.records.specs.Record.{textField}
+use Rattle.records.proofs.Fields.{length-textField}
 
 drop-take : (a m : ℕ) (l : List ℕ) → drop a (take (a + m) l) ≡ take m (drop a l)
 drop-take zero m l = ap (λ (k : ℕ). take k l) (zero-add m)

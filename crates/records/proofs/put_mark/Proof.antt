@@ -1,11 +1,11 @@
--- `sessions::records::put_mark` meets its contract: two stores, one behind the other, are a write.
+-- `records::put_mark` meets its contract: two stores, one behind the other, are a write.
 -- Assumes nothing.
 use native.Mathlib.Omega.{arith}
 use lib.ListN.{length-set}
-use Rattle.sessions.proofs.Record.{mark-written}
+use Rattle.records.proofs.Chain.{mark-written}
 use borrow.Author.Needs.{needs}
-use Rattle.sessions.proofs.records.put_mark.Statement.{statement}
-use Rattle.sessions.proofs.records.put_mark.Tie as tie
+use Rattle.records.proofs.put_mark.Statement.{statement}
+use Rattle.records.proofs.put_mark.Tie as tie
 
 slice-write-t-2 : tie.Need-slice-write-t-2
 slice-write-t-2 c = simp length-set (omega arith)

@@ -1,14 +1,33 @@
-// The record of a session, written to its slot.
+// The record of a session, written to its slot, and the limits of its texts.
 ghost use mathlib.Core.Path.{_≡_};
 ghost use mathlib.Core.Bool.{_&&_};
 ghost use mathlib.Core.List.{[], _∷_, _++_};
-ghost use Prim.Native.Nat.{_+_, _*_, _≤_};
+ghost use Prim.Native.Nat.{_+_, _*_, _≤_, _<_};
 ghost use lib.ListN.{length, replicate};
 ghost use Rattle.octets.specs.Numbers.{beBytes};
 ghost use Rattle.octets.specs.Runs.{write};
 ghost use Rattle.slots.specs.Slot.{within};
-ghost use Rattle.sessions.specs.Change.{textField};
-ghost use Rattle.sessions.specs.Session.{sessionOf, recordOf};
+ghost use Rattle.records.specs.Record.{textField, sessionOf, recordOf};
+
+// A length below 256 as a byte.
+fn low(n: usize) -> u8
+    requires { ⌜ n < 256 ⌝ }
+    ensures { λ r. ⌜ r ≡ n ⌝ }
+{
+    n as u8
+}
+
+// Writes a text field of 1 + cap bytes: length, value, zeros.
+pub fn put_text(t: &mut [u8], at: usize, cap: usize, v: &[u8])
+    requires { ⌜ (cap < 256) × (at + 1 + cap ≤ length (now t)) ⌝ }
+    ensures { λ _. ⌜ now (t .exit) ≡ write (now (t .entry)) at (textField cap (now (v .entry))) ⌝ }
+{
+    let kept = octets::slice(v, 0, cap);
+    let n = kept.len();
+    t[at] = low(n);
+    octets::copy(&mut *t, at + 1, kept);
+    octets::fill(t, at + 1 + n, cap - n, 0);
+}
 
 // Whether the texts keep to the limits of the record.
 pub fn fits_record(user: &[u8], id: &[u8], station: &[u8], filter: &[u8]) -> bool
@@ -52,10 +71,10 @@ fn put_texts(t: &mut [u8], at: usize, user: &[u8], id: &[u8], station: &[u8], fi
     requires { ⌜ at + 174 ≤ length (now t) ⌝ }
     ensures { λ _. ⌜ now (t .exit) ≡ write (now (t .entry)) at (textField 63 (now (user .entry)) ++ textField 32 (now (id .entry)) ++ textField 32 (now (station .entry)) ++ textField 32 (now (filter .entry)) ++ replicate 11 0) ⌝ }
 {
-    super::fields::put_text(&mut *t, at, 63, user);
-    super::fields::put_text(&mut *t, at + 64, 32, id);
-    super::fields::put_text(&mut *t, at + 97, 32, station);
-    super::fields::put_text(&mut *t, at + 130, 32, filter);
+    put_text(&mut *t, at, 63, user);
+    put_text(&mut *t, at + 64, 32, id);
+    put_text(&mut *t, at + 97, 32, station);
+    put_text(&mut *t, at + 130, 32, filter);
     octets::fill(t, at + 163, 11, 0);
 }
 
