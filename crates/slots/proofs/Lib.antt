@@ -2,6 +2,7 @@ pub mod Count
 pub mod Live
 pub mod Reading
 pub mod Fields
+pub mod Words
 pub mod Walk
 pub mod Marks
 pub mod Turns

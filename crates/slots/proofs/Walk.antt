@@ -6,13 +6,14 @@ use mathlib.Core.List.{List, [], _∷_, map}
 use Prim.Native.Nat.{ℕ, _+_, _≤_, _<_}
 use native.Mathlib.Numerals.{add-one}
 use native.Mathlib.Omega.{arith}
+use lib.Dec.{eqb}
 use lib.ListN.{length, getD, take, drop, length-map, length-take, drop-of-length-le}
 use lib.Seq.{drop-cons, getD-take, length-take-le, take-all}
 use Rattle.slots.specs.declared.Criteria.{Criteria}
 use Rattle.slots.specs.declared.Criterion.{Criterion}
 use Rattle.slots.specs.Slot.{live, slot}
 use Rattle.slots.specs.Matching.{all, listed, meets, matches, matchesAt}
-use Rattle.slots.proofs.Live.{passed, refused}
+use Rattle.slots.proofs.Live.{passed, refused, free-mark}
 
 -- an array's length, as a function is told of it
 pub same-long : {B : Type 0} (f : Criterion → B) (l : List Criterion) (n : ℕ) → length (map f l) ≡ n → length l ≡ n
@@ -25,30 +26,36 @@ module _ (c : Criteria) (long : length (c .list) ≡ 5) where
   pub listed-count : c .count ≤ 5 → c .count ≡ length (listed c)
   listed-count h = rw length-take (omega arith)
 
--- the answer before the walk: s is slot k, and r whether it is live
-module _ (p t s : List ℕ) (c : Criteria) (k : ℕ) (r : Bool) (e : r ≡ live s) (here : s ≡ slot k t) where
-  pub walk-free : not r ≡ true → false ≡ matchesAt p (listed c) t k
+-- the answer before the walk: s is slot k, and r whether it opens with the mark
+module _ (p t s : List ℕ) (c : Criteria) (k : ℕ) (here : s ≡ slot k t) where
+  pub walk-free : (r : Bool) → r ≡ eqb (getD s 0 0) 0x5A && eqb (getD s 1 0) 0x4C → not r ≡ true → false ≡ matchesAt p (listed c) t k
   unfolding matches
-  walk-free h = rw (← here, refused r _ e h)
+  walk-free r e h = rw (← here, ← (free-mark s r e h))
 
-  pub walk-starts : not r ≡ false → matchesAt p (listed c) t k ≡ all (meets p s) (listed c)
+  pub walk-starts : matchesAt p (listed c) t k ≡ live s && all (meets p s) (listed c)
   unfolding matches
-  walk-starts h = rw (← here, passed r _ e h)
+  walk-starts = rw (← here)
 
 step : (f : Criterion → Bool) (c : Criteria) (i : ℕ) (d : Criterion) → i < length (listed c)
-    → all f (drop i (listed c)) ≡ (f (getD (c .list) i d) && all f (drop (i + 1) (listed c)))
+    → all f (drop i (listed c)) ≡ f (getD (c .list) i d) && all f (drop (i + 1) (listed c))
 step f c i d h =
     let g : i < c .count = omega (arith, length-take (c .count) (c .list)) in
     rw (add-one, drop-cons (listed c) i d h, getD-take (c .count) (c .list) i d g)
 
--- n criteria, of which those from i on are left; b is the whole answer, r that of criterion i
-module _ (p s : List ℕ) (c : Criteria) (b : Bool) (i n : ℕ) (left : b ≡ all (meets p s) (drop i (listed c))) (long : n ≡ length (listed c)) where
-  pub walk-ends : n ≤ i → true ≡ b
-  walk-ends h = sym (left ∙ rw (drop-of-length-le (listed c) {i = i} (rw (← long) h)))
+and-true : (a : Bool) → a && true ≡ a
+and-true true = refl
+and-true false = refl
 
+-- n criteria, of which those from i on are left; b is the whole answer
+module _ (p s : List ℕ) (c : Criteria) (b : Bool) (i n : ℕ) (left : b ≡ live s && all (meets p s) (drop i (listed c))) (long : n ≡ length (listed c)) where
+  -- all are met: r, whether the slot is live, decides
+  pub walk-ends : (r : Bool) → r ≡ live s → n ≤ i → r ≡ b
+  walk-ends r e h = e ∙ sym (left ∙ rw (drop-of-length-le (listed c) {i = i} (rw (← long) h)) (and-true (live s)))
+
+  -- r is the answer of criterion i
   module _ (r : Bool) (d : Criterion) (e : r ≡ meets p s (getD (c .list) i d)) (h : i < n) where
     pub walk-fails : not r ≡ true → false ≡ b
-    walk-fails g = sym (left ∙ step (meets p s) c i d (rw (← long) h) ∙ rw (refused r _ e g))
+    walk-fails g = sym (left ∙ rw (step (meets p s) c i d (rw (← long) h), refused r _ e g) (and-false (live s)))
 
-    pub walk-next : not r ≡ false → b ≡ all (meets p s) (drop (i + 1) (listed c))
-    walk-next g = left ∙ step (meets p s) c i d (rw (← long) h) ∙ rw (passed r _ e g)
+    pub walk-next : not r ≡ false → b ≡ live s && all (meets p s) (drop (i + 1) (listed c))
+    walk-next g = left ∙ rw (step (meets p s) c i d (rw (← long) h), passed r _ e g)

@@ -1,9 +1,13 @@
 // The session table: its slots, which of them are live, and which of them a request names.
+mod compare;
+
 ghost use mathlib.Core.Path.{_≡_};
+ghost use mathlib.Core.Bool.{_&&_};
 ghost use Prim.Native.Nat.{_+_, _*_, _≤_, _<_};
+ghost use lib.Dec.{eqb};
 ghost use lib.ListN.{length, getD};
 ghost use Rattle.slots.specs.Slot.{slotCount, slot, within, live, text};
-ghost use Rattle.slots.specs.Matching.{fieldBytes, meets, listed, matchesAt};
+ghost use Rattle.slots.specs.Matching.{listed, matchesAt};
 ghost use Rattle.slots.specs.Marks.{marksAfter};
 
 // A field of a slot that a request can name a session by.
@@ -79,14 +83,21 @@ pub fn in_range(lo: usize, hi: usize, n: usize) -> bool
     n <= hi
 }
 
-// Whether the slot s holds a session.
-pub fn is_live(s: &[u8]) -> bool
-    ensures { λ r. ⌜ r ≡ live (now (s .entry)) ⌝ }
+// Whether the slot s opens with the mark.
+fn has_mark(s: &[u8]) -> bool
+    ensures { λ r. ⌜ r ≡ eqb (getD (now (s .entry)) 0 0) 0x5A && eqb (getD (now (s .entry)) 1 0) 0x4C ⌝ }
 {
     if byte(s, 0) != 0x5A {
         return false;
     }
-    if byte(s, 1) != 0x4C {
+    byte(s, 1) == 0x4C
+}
+
+// Whether the slot s holds a session.
+pub fn is_live(s: &[u8]) -> bool
+    ensures { λ r. ⌜ r ≡ live (now (s .entry)) ⌝ }
+{
+    if !has_mark(s) {
         return false;
     }
     if !in_range(1, 63, byte(s, 18)) {
@@ -118,29 +129,6 @@ pub fn text_at(s: &[u8], i: usize) -> &[u8]
     octets::slice(s, i + 1, byte(s, i))
 }
 
-// The bytes of a field.
-fn field_of(s: &[u8], f: Field) -> &[u8]
-    ensures { λ r. ⌜ now r ≡ fieldBytes f (now (s .entry)) ⌝ }
-{
-    match f {
-        Field::UserName => text_at(s, 18),
-        Field::NasPort => octets::slice(s, 2, 4),
-        Field::FramedAddress => octets::slice(s, 6, 4),
-        Field::CallingStation => text_at(s, 115),
-        Field::SessionId => text_at(s, 82),
-    }
-}
-
-// Whether the slot s meets the criterion c of the request p.
-fn meets_one(p: &[u8], s: &[u8], c: Criterion) -> bool
-    ensures { λ r. ⌜ r ≡ meets (now (p .entry)) (now (s .entry)) c ⌝ }
-{
-    let at = c.at;
-    let size = c.size;
-    let field = c.field;
-    octets::equal(octets::slice(p, at, size), field_of(s, field))
-}
-
 // How many criteria there are: the list has room for 5.
 fn number_of(c: Criteria) -> usize
     ensures { λ r. ⌜ (r ≡ length (listed c)) × (r ≤ 5) ⌝ }
@@ -152,24 +140,24 @@ fn number_of(c: Criteria) -> usize
     n
 }
 
-// Whether slot k is live and meets every criterion.
+// Whether slot k is live and meets every criterion. The lengths are looked at last: most slots fail before.
 pub fn match_slot(t: &[u8], k: usize, p: &[u8], c: Criteria) -> bool
     ensures { λ r. ⌜ r ≡ matchesAt (now (p .entry)) (listed c) (now (t .entry)) k ⌝ }
 {
     let s = slot_of(t, k);
-    if !is_live(s) {
+    if !has_mark(s) {
         return false;
     }
     let n = number_of(c);
     let mut i = 0;
     while i < n {
         let one = c.list[i];
-        if !meets_one(p, s, one) {
+        if !compare::meets_one(p, s, one) {
             return false;
         }
         i += 1;
     }
-    true
+    is_live(s)
 }
 
 // Slot k, where it lies in the table whole.
@@ -192,16 +180,19 @@ pub fn mark_all(t: &[u8], p: &[u8], c: Criteria) -> [u8; 64]
     while k < slots {
         let s = whole_slot(t, k);
         'slot: loop {
-            if !is_live(s) {
+            if !has_mark(s) {
                 break 'slot;
             }
             let mut i = 0;
             while i < n {
                 let one = c.list[i];
-                if !meets_one(p, s, one) {
+                if !compare::meets_one(p, s, one) {
                     break 'slot;
                 }
                 i += 1;
+            }
+            if !is_live(s) {
+                break 'slot;
             }
             marks[k] = 1;
             break 'slot;

@@ -1,9 +1,9 @@
--- `slots::meets_one` meets its contract: the two runs compared are those of the definition.
+-- `slots::compare::meets_one` meets its contract: the two runs compared are those of the definition.
 -- Assumes nothing.
 use borrow.Author.Needs.{needs}
 use Rattle.slots.proofs.Fields.{meets-is}
-use Rattle.slots.proofs.meets_one.Statement.{statement}
-use Rattle.slots.proofs.meets_one.Tie as tie
+use Rattle.slots.proofs.compare.meets_one.Statement.{statement}
+use Rattle.slots.proofs.compare.meets_one.Tie as tie
 
 returns : tie.Need-returns
 returns c = search (needs, meets-is)

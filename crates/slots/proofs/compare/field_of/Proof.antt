@@ -1,9 +1,9 @@
--- `slots::field_of` meets its contract: each variant reads its own place.
+-- `slots::compare::field_of` meets its contract: each variant reads its own place.
 -- Assumes nothing.
 use borrow.Author.Needs.{needs}
 use Rattle.slots.proofs.Fields.{field-user, field-port, field-address, field-station, field-id}
-use Rattle.slots.proofs.field_of.Statement.{statement}
-use Rattle.slots.proofs.field_of.Tie as tie
+use Rattle.slots.proofs.compare.field_of.Statement.{statement}
+use Rattle.slots.proofs.compare.field_of.Tie as tie
 
 returns : tie.Need-returns
 returns c = search (needs, field-user)
