@@ -9,7 +9,7 @@ use Rattle.slots.specs.declared.Criterion.{Criterion}
 use Rattle.slots.specs.declared.Field.{Field}
 use Rattle.slots.specs.declared.Field.the-variants.{UserName, NasPort, FramedAddress, CallingStation, SessionId}
 use Rattle.slots.specs.Slot.{text}
-use Rattle.slots.specs.Matching.{fieldBytes, meets}
+use Rattle.slots.specs.Matching.{fieldBytes, meets, place}
 
 module _ (f : Field) (s v : List ℕ) where
   pub field-user : f ≡ UserName → v ≡ text 18 s → v ≡ fieldBytes f s
@@ -31,6 +31,27 @@ module _ (f : Field) (s v : List ℕ) where
   pub field-id : f ≡ SessionId → v ≡ text 82 s → v ≡ fieldBytes f s
   unfolding fieldBytes
   field-id e g = rw e g
+
+module _ (f : Field) where
+  pub place-user : f ≡ UserName → 18 ≡ place f
+  unfolding place
+  place-user e = rw e
+
+  pub place-port : f ≡ NasPort → 2 ≡ place f
+  unfolding place
+  place-port e = rw e
+
+  pub place-address : f ≡ FramedAddress → 6 ≡ place f
+  unfolding place
+  place-address e = rw e
+
+  pub place-station : f ≡ CallingStation → 115 ≡ place f
+  unfolding place
+  place-station e = rw e
+
+  pub place-id : f ≡ SessionId → 82 ≡ place f
+  unfolding place
+  place-id e = rw e
 
 pub meets-is : (p s a b : List ℕ) (c : Criterion) (r : Bool) → r ≡ equalBytes a b → a ≡ part (c .at) (c .size) p → b ≡ fieldBytes (c .field) s → r ≡ meets p s c
 unfolding meets

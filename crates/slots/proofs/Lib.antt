@@ -8,5 +8,6 @@ pub mod Marks
 pub mod Turns
 pub mod Overwrite
 pub mod Places
+pub mod Whole
 pub mod Kept
 pub mod Marked

@@ -6,7 +6,7 @@ use Prim.Native.Nat.{ℕ, _+_, _*_, _/_, _-_, _≤_, _<_}
 use native.Mathlib.Omega.{arith}
 use lib.ListN.{length, getD, take, drop, List·getD-eq-default}
 use Rattle.octets.specs.Runs.{part}
-use Rattle.octets.proofs.Part.{part-past, part-of}
+use Rattle.octets.proofs.Part.{part-past, part-of, length-part}
 use Rattle.slots.specs.Slot.{slot, text, live}
 
 pub slot-past : (t : List ℕ) (k : ℕ) → length t / 192 < k → take 0 t ≡ slot k t
@@ -21,6 +21,9 @@ slot-part t s k e = e
 pub slot-whole : (t : List ℕ) (k : ℕ) → take (k * 192 + 192 - k * 192) (drop (k * 192) t) ≡ slot k t
 unfolding slot
 slot-whole t k = part-of (k * 192) 192 t
+
+pub slot-long : (t : List ℕ) (k : ℕ) → (k + 1) * 192 ≤ length t → length (take (k * 192 + 192 - k * 192) (drop (k * 192) t)) ≡ 192
+slot-long t k h = rw (part-of (k * 192) 192 t) (length-part (k * 192) 192 t (omega arith))
 
 pub text-past : (s : List ℕ) (i : ℕ) → length s ≤ i → take 0 s ≡ text i s
 unfolding text

@@ -3,16 +3,17 @@
 use mathlib.Core.Path.{_≡_, refl, sym, ap, _∙_}
 use mathlib.Core.Bool.{Bool, true, false, not, _&&_, and-false}
 use mathlib.Core.List.{List, [], _∷_, map}
-use Prim.Native.Nat.{ℕ, _+_, _≤_, _<_}
+use Prim.Native.Nat.{ℕ, zero, suc, _+_, _≤_, _<_}
 use native.Mathlib.Numerals.{add-one}
 use native.Mathlib.Omega.{arith}
 use lib.Dec.{eqb}
 use lib.ListN.{length, getD, take, drop, length-map, length-take, drop-of-length-le}
 use lib.Seq.{drop-cons, getD-take, length-take-le, take-all}
+use Rattle.octets.proofs.Equality.{and-both}
 use Rattle.slots.specs.declared.Criteria.{Criteria}
 use Rattle.slots.specs.declared.Criterion.{Criterion}
 use Rattle.slots.specs.Slot.{live, slot}
-use Rattle.slots.specs.Matching.{all, listed, meets, matches, matchesAt}
+use Rattle.slots.specs.Matching.{inside, all, listed, meets, matches, matchesAt}
 use Rattle.slots.proofs.Live.{passed, refused, free-mark}
 
 -- an array's length, as a function is told of it
@@ -59,3 +60,29 @@ module _ (p s : List ℕ) (c : Criteria) (b : Bool) (i n : ℕ) (left : b ≡ li
 
     pub walk-next : not r ≡ false → b ≡ live s && all (meets p s) (drop (i + 1) (listed c))
     walk-next g = left ∙ rw (step (meets p s) c i d (rw (← long) h), passed r _ e g)
+
+-- ---- the walk that asks whether every value lies in the request p
+
+module _ (p : List ℕ) (c : Criteria) (i n : ℕ) (left : all (inside p) (listed c) ≡ all (inside p) (drop i (listed c))) (long : n ≡ length (listed c)) where
+  pub inside-ends : n ≤ i → true ≡ all (inside p) (listed c)
+  inside-ends h = sym (left ∙ rw (drop-of-length-le (listed c) {i = i} (rw (← long) h)))
+
+  module _ (r : Bool) (d : Criterion) (e : r ≡ inside p (getD (c .list) i d)) (h : i < n) where
+    pub inside-fails : not r ≡ true → false ≡ all (inside p) (listed c)
+    inside-fails g = sym (left ∙ rw (step (inside p) c i d (rw (← long) h), refused r _ e g))
+
+    pub inside-next : not r ≡ false → all (inside p) (listed c) ≡ all (inside p) (drop (i + 1) (listed c))
+    inside-next g = left ∙ rw (step (inside p) c i d (rw (← long) h), passed r _ e g)
+
+all-at : (f : Criterion → Bool) (l : List Criterion) (i : ℕ) (d : Criterion) → i < length l → all f l ≡ true → f (getD l i d) ≡ true
+all-at f [] i d h e = absurd (omega arith)
+all-at f (x ∷ l) zero d h e = and-both (f x) (all f l) e .0
+all-at f (x ∷ l) (suc i) d h e = all-at f l i d (omega arith) (and-both (f x) (all f l) e .1)
+
+-- what it found of criterion i
+pub inside-at : (p : List ℕ) (c : Criteria) (i n : ℕ) (d : Criterion) (r : Bool) → r ≡ all (inside p) (listed c) → n ≡ length (listed c) → i < n → r ≡ true
+    → inside p (getD (c .list) i d) ≡ true
+inside-at p c i n d r e long h g =
+    let l : i < length (listed c) = rw (← long) h in
+    let m : i < c .count = omega (arith, length-take (c .count) (c .list)) in
+    rw (getD-take (c .count) (c .list) i d m) at (all-at (inside p) (listed c) i d l (sym e ∙ g))

@@ -23,7 +23,7 @@ last-digit : (x y a b : ℕ) → a < 256 → b < 256 → x * 256 + a ≡ y * 256
 last-digit x y a b ha hb e = (omega arith, omega arith)
 
 -- n bytes of a from i on and of b from j on that are the same number are the same bytes
-digits : (a b : List ℕ) (i j n : ℕ) → ((k : ℕ) → Fits w8 (getD a k 0)) → ((k : ℕ) → Fits w8 (getD b k 0)) → be i n a ≡ be j n b
+pub digits : (a b : List ℕ) (i j n : ℕ) → ((k : ℕ) → Fits w8 (getD a k 0)) → ((k : ℕ) → Fits w8 (getD b k 0)) → be i n a ≡ be j n b
     → (k : ℕ) → k < n → getD a (i + k) 0 ≡ getD b (j + k) 0
 unfolding be
 digits a b i j zero fa fb e k h = absurd (omega arith)

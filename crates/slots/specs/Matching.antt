@@ -2,8 +2,9 @@
 -- Assumes nothing.
 use mathlib.Core.Bool.{Bool, true, _&&_}
 use mathlib.Core.List.{List, [], _∷_}
-use Prim.Native.Nat.{ℕ}
-use lib.ListN.{take}
+use Prim.Native.Nat.{ℕ, _+_}
+use lib.Dec.{leb}
+use lib.ListN.{length, take}
 use Rattle.octets.specs.Runs.{part, equalBytes}
 use Rattle.slots.specs.declared.Criteria.{Criteria}
 use Rattle.slots.specs.declared.Criterion.{Criterion}
@@ -19,9 +20,21 @@ fieldBytes FramedAddress s = part 6 4 s
 fieldBytes CallingStation s = text 115 s
 fieldBytes SessionId s = text 82 s
 
+-- where a field begins: a number below 18, a text with its length
+unfoldable pub place : Field → ℕ
+place UserName = 18
+place NasPort = 2
+place FramedAddress = 6
+place CallingStation = 115
+place SessionId = 82
+
 -- the value asked for, a part of the bytes p of the request
 abbrev pub wanted : List ℕ → Criterion → List ℕ
 wanted p c = part (c .at) (c .size) p
+
+-- it lies in the request as a whole, and is no longer than a text can be
+unfoldable pub inside : List ℕ → Criterion → Bool
+inside p c = leb (c .at + c .size) (length p) && leb (c .size) 63
 
 -- the field equals the value asked for
 unfoldable pub meets : List ℕ → List ℕ → Criterion → Bool

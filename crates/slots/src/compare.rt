@@ -1,7 +1,11 @@
 // A criterion compared with the field that it names.
 ghost use mathlib.Core.Path.{_≡_};
-ghost use Rattle.octets.specs.Runs.{equalBytes};
-ghost use Rattle.slots.specs.Matching.{fieldBytes, meets};
+ghost use mathlib.Core.Bool.{true};
+ghost use Prim.Native.Nat.{_+_, _≤_};
+ghost use lib.ListN.{length};
+ghost use Rattle.octets.specs.Runs.{part, equalBytes};
+ghost use Rattle.slots.specs.Slot.{text};
+ghost use Rattle.slots.specs.Matching.{fieldBytes, inside, meets, place};
 
 // Whether a and b are the same bytes, four at a time. It returns at the first difference.
 fn alike(a: &[u8], b: &[u8]) -> bool
@@ -41,4 +45,80 @@ pub fn meets_one(p: &[u8], s: &[u8], c: super::Criterion) -> bool
     let size = c.size;
     let field = c.field;
     alike(octets::slice(p, at, size), field_of(s, field))
+}
+
+// Whether the value asked for lies in the request p as a whole, and is no longer than a text can be.
+pub fn lies_in(p: &[u8], c: super::Criterion) -> bool
+    ensures { λ r. ⌜ r ≡ inside (now (p .entry)) c ⌝ }
+{
+    let at = c.at;
+    let size = c.size;
+    if p.len() < at {
+        return false;
+    }
+    if p.len() - at < size {
+        return false;
+    }
+    size <= 63
+}
+
+// Where a field begins.
+fn place_of(f: super::Field) -> usize
+    ensures { λ r. ⌜ r ≡ place f ⌝ }
+{
+    match f {
+        super::Field::UserName => 18,
+        super::Field::NasPort => 2,
+        super::Field::FramedAddress => 6,
+        super::Field::CallingStation => 115,
+        super::Field::SessionId => 82,
+    }
+}
+
+// Whether size bytes of p from place at on are the text of the slot s whose length stands at place i. The lengths are compared first.
+fn text_is(p: &[u8], at: usize, size: usize, s: &[u8], i: usize) -> bool
+    requires { ⌜ (at + size ≤ length (now p)) × (size ≤ 63) × (length (now s) ≡ 192) × (i ≤ 115) ⌝ }
+    ensures { λ r. ⌜ r ≡ equalBytes (part at size (now (p .entry))) (text i (now (s .entry))) ⌝ }
+{
+    if super::byte(s, i) != size {
+        return false;
+    }
+    alike(&p[at..at + size], &s[i + 1..i + 1 + size])
+}
+
+// Whether size bytes of p from place at on are the four bytes of s from place i on.
+fn number_is(p: &[u8], at: usize, size: usize, s: &[u8], i: usize) -> bool
+    requires { ⌜ (at + size ≤ length (now p)) × (i + 4 ≤ length (now s)) ⌝ }
+    ensures { λ r. ⌜ r ≡ equalBytes (part at size (now (p .entry))) (part i 4 (now (s .entry))) ⌝ }
+{
+    if size != 4 {
+        return false;
+    }
+    octets::be32(p, at) == octets::be32(s, i)
+}
+
+// Whether the whole slot s meets the criterion c, whose value lies in the request p.
+fn meets_whole(p: &[u8], s: &[u8], c: super::Criterion) -> bool
+    requires { ⌜ (inside (now p) c ≡ true) × (length (now s) ≡ 192) ⌝ }
+    ensures { λ r. ⌜ r ≡ meets (now (p .entry)) (now (s .entry)) c ⌝ }
+{
+    let at = c.at;
+    let size = c.size;
+    let field = c.field;
+    let i = place_of(field);
+    if i < 18 {
+        return number_is(p, at, size, s, i);
+    }
+    text_is(p, at, size, s, i)
+}
+
+// The same, where known says whether the value lies in p.
+pub fn meets_known(p: &[u8], s: &[u8], c: super::Criterion, known: bool) -> bool
+    requires { ⌜ ((known ≡ true → inside (now p) c ≡ true)) × (length (now s) ≡ 192) ⌝ }
+    ensures { λ r. ⌜ r ≡ meets (now (p .entry)) (now (s .entry)) c ⌝ }
+{
+    if known {
+        return meets_whole(p, s, c);
+    }
+    meets_one(p, s, c)
 }

@@ -7,7 +7,7 @@ ghost use Prim.Native.Nat.{_+_, _*_, _≤_, _<_};
 ghost use lib.Dec.{eqb};
 ghost use lib.ListN.{length, getD};
 ghost use Rattle.slots.specs.Slot.{slotCount, slot, within, live, text};
-ghost use Rattle.slots.specs.Matching.{listed, matchesAt};
+ghost use Rattle.slots.specs.Matching.{inside, all, listed, matchesAt};
 ghost use Rattle.slots.specs.Marks.{marksAfter};
 
 // A field of a slot that a request can name a session by.
@@ -160,10 +160,26 @@ pub fn match_slot(t: &[u8], k: usize, p: &[u8], c: Criteria) -> bool
     is_live(s)
 }
 
+// Whether the values of all n criteria lie in the request p as a whole.
+fn all_inside(p: &[u8], c: Criteria, n: usize) -> bool
+    requires { ⌜ (n ≡ length (listed c)) × (n ≤ 5) ⌝ }
+    ensures { λ r. ⌜ r ≡ all (inside (now (p .entry))) (listed c) ⌝ }
+{
+    let mut i = 0;
+    while i < n {
+        let one = c.list[i];
+        if !compare::lies_in(p, one) {
+            return false;
+        }
+        i += 1;
+    }
+    true
+}
+
 // Slot k, where it lies in the table whole.
 fn whole_slot(t: &[u8], k: usize) -> &[u8]
     requires { ⌜ (k + 1) * 192 ≤ length (now t) ⌝ }
-    ensures { λ r. ⌜ now r ≡ slot k (now (t .entry)) ⌝ }
+    ensures { λ r. ⌜ (now r ≡ slot k (now (t .entry))) × (length (now r) ≡ 192) ⌝ }
 {
     let a = k * 192;
     &t[a..a + 192]
@@ -175,6 +191,7 @@ pub fn mark_all(t: &[u8], p: &[u8], c: Criteria) -> [u8; 64]
 {
     let slots = slot_count(t);
     let n = number_of(c);
+    let known = all_inside(p, c, n);
     let mut marks = [0u8; 64];
     let mut k = 0;
     while k < slots {
@@ -186,7 +203,7 @@ pub fn mark_all(t: &[u8], p: &[u8], c: Criteria) -> [u8; 64]
             let mut i = 0;
             while i < n {
                 let one = c.list[i];
-                if !compare::meets_one(p, s, one) {
+                if !compare::meets_known(p, s, one, known) {
                     break 'slot;
                 }
                 i += 1;

@@ -9,7 +9,7 @@ use Rattle.slots.specs.Slot.{live}
 use Rattle.slots.specs.Matching.{all, listed, meets, matchesAt}
 use Rattle.slots.specs.Marks.{marksAfter}
 use Rattle.slots.proofs.Count.{Counted, counted-is}
-use Rattle.slots.proofs.Walk.{walk-starts, walk-next}
+use Rattle.slots.proofs.Walk.{walk-starts, walk-next, inside-at}
 use Rattle.slots.proofs.Marks.{marks-start}
 use Rattle.slots.proofs.Turns.{turn-free, turn-fails, turn-dead, turn-meets, turns-end}
 use borrow.Author.Needs.{needs}
@@ -17,28 +17,31 @@ use Rattle.slots.proofs.mark_all.Statement.{statement}
 use Rattle.slots.proofs.mark_all.Tie as tie
 
 abbrev Inv-loop2 : tie.InvT-loop2
-Inv-loop2 t p c slots n marks k s i₀ i = (i ≤ n) × (matchesAt p (listed c) t k ≡ live s && all (meets p s) (drop i (listed c)))
+Inv-loop2 t p c slots n known marks k s i₀ i = (i ≤ n) × (matchesAt p (listed c) t k ≡ live s && all (meets p s) (drop i (listed c)))
 
 abbrev μ-loop2 : tie.MeasureT-loop2
-μ-loop2 t p c slots n marks k s i₀ i = n - i
+μ-loop2 t p c slots n known marks k s i₀ i = n - i
 
 abbrev Inv-slot : tie.InvT-slot
-Inv-slot t p c slots n marks₀ k s marks = marks ≡ marksAfter (matchesAt p (listed c) t) k
+Inv-slot t p c slots n known marks₀ k s marks = marks ≡ marksAfter (matchesAt p (listed c) t) k
 
 abbrev μ-slot : tie.MeasureT-slot
-μ-slot t p c slots n marks₀ k s marks = 0
+μ-slot t p c slots n known marks₀ k s marks = 0
 
 abbrev Inv-loop : tie.InvT-loop
-Inv-loop t p c slots n marks₀ k₀ marks k = (k ≤ slots) × Counted slots (length t) × (marks ≡ marksAfter (matchesAt p (listed c) t) k)
+Inv-loop t p c slots n known marks₀ k₀ marks k = (k ≤ slots) × Counted slots (length t) × (marks ≡ marksAfter (matchesAt p (listed c) t) k)
 
 abbrev μ-loop : tie.MeasureT-loop
-μ-loop t p c slots n marks₀ k₀ marks k = slots - k
+μ-loop t p c slots n known marks₀ k₀ marks k = slots - k
 
 loop-holds : tie.Need-loop-holds Inv-loop2 μ-loop2 Inv-slot μ-slot Inv-loop μ-loop
 loop-holds c = search (needs, counted-is, marks-start)
 
 loop2-holds : tie.Need-loop2-holds Inv-loop2 μ-loop2 Inv-slot μ-slot Inv-loop μ-loop
 loop2-holds c = search (needs, walk-starts)
+
+meets-known-requires : tie.Need-meets-known-requires Inv-loop2 μ-loop2 Inv-slot μ-slot Inv-loop μ-loop
+meets-known-requires c κs = search (needs, inside-at)
 
 loop2-again : tie.Need-loop2-again Inv-loop2 μ-loop2 Inv-slot μ-slot Inv-loop μ-loop
 loop2-again c = search (needs, walk-next)
@@ -67,6 +70,7 @@ mark-all-spec =
     μ-loop
     (λ c κs. search needs)
     (λ c κs. search needs)
+    (λ c κs. search needs)
     loop-holds
     (λ c κs. search needs)
     (λ c. search needs)
@@ -74,7 +78,7 @@ mark-all-spec =
     loop2-holds
     (λ c. search needs)
     (λ c. search needs)
-    (λ c κs. search needs)
+    meets-known-requires
     (λ c. search needs)
     (λ c. search needs)
     loop2-again
