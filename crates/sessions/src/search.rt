@@ -20,12 +20,12 @@ fn has_id(t: &[u8], k: usize, id: &[u8]) -> bool
 pub fn id_live(t: &[u8], n: usize, id: &[u8]) -> bool
     ensures { λ r. ⌜ r ≡ idLive (now (id .entry)) (now (t .entry)) n ⌝ }
 {
-    let mut k = 0;
-    while k < n {
-        if has_id(t, k, id) {
+    let mut i = 0;
+    while i < n {
+        if has_id(t, i, id) {
             return true;
         }
-        k += 1;
+        i += 1;
     }
     false
 }

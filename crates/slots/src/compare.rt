@@ -1,11 +1,22 @@
-// A criterion compared with the field that it names.
+// The criteria of a request, each compared with the field that it names.
 ghost use mathlib.Core.Path.{_≡_};
 ghost use mathlib.Core.Bool.{true};
 ghost use Prim.Native.Nat.{_+_, _≤_};
 ghost use lib.ListN.{length};
 ghost use Rattle.octets.specs.Runs.{part, equalBytes};
 ghost use Rattle.slots.specs.Slot.{text};
-ghost use Rattle.slots.specs.Matching.{fieldBytes, inside, meets, place};
+ghost use Rattle.slots.specs.Matching.{fieldBytes, inside, meets, place, all, listed};
+
+// How many criteria there are: the list has room for 5.
+pub fn number_of(c: super::Criteria) -> usize
+    ensures { λ r. ⌜ (r ≡ length (listed c)) × (r ≤ 5) ⌝ }
+{
+    let n = c.count;
+    if 5 < n {
+        return 5;
+    }
+    n
+}
 
 // Whether a and b are the same bytes, four at a time. It returns at the first difference.
 fn alike(a: &[u8], b: &[u8]) -> bool
@@ -48,7 +59,7 @@ pub fn meets_one(p: &[u8], s: &[u8], c: super::Criterion) -> bool
 }
 
 // Whether the value asked for lies in the request p as a whole, and is no longer than a text can be.
-pub fn lies_in(p: &[u8], c: super::Criterion) -> bool
+fn lies_in(p: &[u8], c: super::Criterion) -> bool
     ensures { λ r. ⌜ r ≡ inside (now (p .entry)) c ⌝ }
 {
     let at = c.at;
@@ -60,6 +71,22 @@ pub fn lies_in(p: &[u8], c: super::Criterion) -> bool
         return false;
     }
     size <= 63
+}
+
+// Whether the values of all n criteria lie in the request p as a whole.
+pub fn all_inside(p: &[u8], c: super::Criteria, n: usize) -> bool
+    requires { ⌜ (n ≡ length (listed c)) × (n ≤ 5) ⌝ }
+    ensures { λ r. ⌜ r ≡ all (inside (now (p .entry))) (listed c) ⌝ }
+{
+    let mut i = 0;
+    while i < n {
+        let one = c.list[i];
+        if !lies_in(p, one) {
+            return false;
+        }
+        i += 1;
+    }
+    true
 }
 
 // Where a field begins.

@@ -7,7 +7,7 @@ ghost use Prim.Native.Nat.{_+_, _*_, _≤_, _<_};
 ghost use lib.Dec.{eqb};
 ghost use lib.ListN.{length, getD};
 ghost use Rattle.slots.specs.Slot.{slotCount, slot, within, live, text};
-ghost use Rattle.slots.specs.Matching.{inside, all, listed, matchesAt};
+ghost use Rattle.slots.specs.Matching.{listed, matchesAt};
 ghost use Rattle.slots.specs.Marks.{marksAfter};
 
 // A field of a slot that a request can name a session by.
@@ -129,17 +129,6 @@ pub fn text_at(s: &[u8], i: usize) -> &[u8]
     octets::slice(s, i + 1, byte(s, i))
 }
 
-// How many criteria there are: the list has room for 5.
-fn number_of(c: Criteria) -> usize
-    ensures { λ r. ⌜ (r ≡ length (listed c)) × (r ≤ 5) ⌝ }
-{
-    let n = c.count;
-    if 5 < n {
-        return 5;
-    }
-    n
-}
-
 // Whether slot k is live and meets every criterion. The lengths are looked at last: most slots fail before.
 pub fn match_slot(t: &[u8], k: usize, p: &[u8], c: Criteria) -> bool
     ensures { λ r. ⌜ r ≡ matchesAt (now (p .entry)) (listed c) (now (t .entry)) k ⌝ }
@@ -148,7 +137,7 @@ pub fn match_slot(t: &[u8], k: usize, p: &[u8], c: Criteria) -> bool
     if !has_mark(s) {
         return false;
     }
-    let n = number_of(c);
+    let n = compare::number_of(c);
     let mut i = 0;
     while i < n {
         let one = c.list[i];
@@ -158,22 +147,6 @@ pub fn match_slot(t: &[u8], k: usize, p: &[u8], c: Criteria) -> bool
         i += 1;
     }
     is_live(s)
-}
-
-// Whether the values of all n criteria lie in the request p as a whole.
-fn all_inside(p: &[u8], c: Criteria, n: usize) -> bool
-    requires { ⌜ (n ≡ length (listed c)) × (n ≤ 5) ⌝ }
-    ensures { λ r. ⌜ r ≡ all (inside (now (p .entry))) (listed c) ⌝ }
-{
-    let mut i = 0;
-    while i < n {
-        let one = c.list[i];
-        if !compare::lies_in(p, one) {
-            return false;
-        }
-        i += 1;
-    }
-    true
 }
 
 // Slot k, where it lies in the table whole.
@@ -190,8 +163,8 @@ pub fn mark_all(t: &[u8], p: &[u8], c: Criteria) -> [u8; 64]
     ensures { λ r. ⌜ r ≡ marksAfter (matchesAt (now (p .entry)) (listed c) (now (t .entry))) (slotCount (now (t .entry))) ⌝ }
 {
     let slots = slot_count(t);
-    let n = number_of(c);
-    let known = all_inside(p, c, n);
+    let n = compare::number_of(c);
+    let known = compare::all_inside(p, c, n);
     let mut marks = [0u8; 64];
     let mut k = 0;
     while k < slots {

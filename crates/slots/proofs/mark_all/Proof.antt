@@ -47,7 +47,7 @@ loop2-again : tie.Need-loop2-again Inv-loop2 μ-loop2 Inv-slot μ-slot Inv-loop 
 loop2-again c = search (needs, walk-next)
 
 loop-again : tie.Need-loop-again Inv-loop2 μ-loop2 Inv-slot μ-slot Inv-loop μ-loop
-loop-again c = 
+loop-again c =
     ⊎-elim
     (λ w. search (needs, turn-free))
     (⊎-elim

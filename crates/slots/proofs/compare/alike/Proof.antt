@@ -25,11 +25,10 @@ returns-2 c = search (needs, words-apart)
 loop-again : tie.Need-loop-again Inv-loop μ-loop
 loop-again c =
     let kb = c .before .before .before .before .before .before in
-    let at = c .before .before .before .before .loop in
-    (
+    let at = c .before .before .before .before .loop in (
       search needs,
       search needs,
-      words-next _ _ _ (at .i) (at .inv .2) (at .inv .1) _ _ (c .before .before .be32 .ensures) (c .before .be322 .ensures) (c .if2 .left) (c .before .before .before .loop-test .taken) (λ k. kb .before .shared-slice-known .given k) (λ k. kb .shared-slice-known2 .given k)
+      words-next _ _ _ (at .i) (at .inv .2) (at .inv .1) _ _ (c .before .before .be32 .ensures) (c .before .be322 .ensures) (c .if2 .left) (c .before .before .before .loop-test .taken) (λ k. kb .before .shared-slice-known .given k) (λ k. kb .shared-slice-known2 .given k),
     )
 
 returns-3 : tie.Need-returns-3 Inv-loop μ-loop

@@ -1,4 +1,4 @@
--- `slots::all_inside` meets its contract: the criteria that are left decide.
+-- `slots::compare::all_inside` meets its contract: the criteria that are left decide.
 -- Assumes nothing.
 use Prim.Native.Nat.{_≤_, _-_}
 use mathlib.Core.Path.{_≡_, refl}
@@ -6,8 +6,8 @@ use lib.ListN.{drop}
 use Rattle.slots.specs.Matching.{inside, all, listed}
 use Rattle.slots.proofs.Walk.{inside-fails, inside-next, inside-ends}
 use borrow.Author.Needs.{needs}
-use Rattle.slots.proofs.all_inside.Statement.{statement}
-use Rattle.slots.proofs.all_inside.Tie as tie
+use Rattle.slots.proofs.compare.all_inside.Statement.{statement}
+use Rattle.slots.proofs.compare.all_inside.Tie as tie
 
 abbrev Inv-loop : tie.InvT-loop
 Inv-loop p n c i₀ i = (i ≤ n) × (all (inside p) (listed c) ≡ all (inside p) (drop i (listed c)))

@@ -1,11 +1,11 @@
--- `slots::number_of` meets its contract: a list of five gives five where more are asked of it.
+-- `slots::compare::number_of` meets its contract: a list of five gives five where more are asked of it.
 -- Assumes nothing.
 use mathlib.Core.Path.{_≡_}
 use lib.ListN.{length}
 use borrow.Author.Needs.{needs}
 use Rattle.slots.proofs.Walk.{same-long, listed-five, listed-count}
-use Rattle.slots.proofs.number_of.Statement.{statement}
-use Rattle.slots.proofs.number_of.Tie as tie
+use Rattle.slots.proofs.compare.number_of.Statement.{statement}
+use Rattle.slots.proofs.compare.number_of.Tie as tie
 
 long : (c : tie.Start) → length (c .args .c .list) ≡ 5
 long c = same-long _ (c .args .c .list) 5 (c .good .0 .1 .1 .1 .0 .1 .0 .1)
