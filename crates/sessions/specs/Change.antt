@@ -1,0 +1,55 @@
+-- What a request does to the sessions it names: a Disconnect ends them, a CoA alters the fields that it names (document 01, "The session table").
+-- Assumes nothing.
+use mathlib.Core.Bool.{Bool, _&&_, cond}
+use mathlib.Core.List.{List, _∷_, _++_}
+use Prim.Native.Nat.{ℕ, zero, suc, _+_, _*_, _-_}
+use lib.Dec.{eqb}
+use lib.ListN.{length, getD, take, replicate}
+use Rattle.octets.specs.Numbers.{beBytes}
+use Rattle.octets.specs.Runs.{part, write}
+use Rattle.records.specs.Record.{textField}
+use Rattle.slots.specs.Slot.{live, slot}
+use Rattle.slots.specs.Marks.{countTo}
+use Rattle.sessions.specs.declared.Change.{Change}
+use Rattle.sessions.specs.declared.Change.the-variants.{End, Alter}
+use Rattle.sessions.specs.declared.Alteration.{Alteration}
+use Rattle.sessions.specs.declared.Number.{Number}
+use Rattle.sessions.specs.declared.Number.the-variants.{Keep, Set}
+use Rattle.sessions.specs.declared.Text.{Text}
+use Rattle.sessions.specs.declared.Text.the-variants.{Same, Value}
+
+-- all 32 bits of a number, where the request names it
+unfoldable pub setNumber : Number → ℕ → List ℕ → List ℕ
+setNumber Keep i s = s
+setNumber (Set v) i s = write s i (beBytes 4 v)
+
+-- a text that lies in the bytes p of the request, where the request names it
+unfoldable pub setText : List ℕ → Text → ℕ → List ℕ → List ℕ
+setText p Same i s = s
+setText p (Value at size) i s = write s i (textField 32 (part at size p))
+
+-- a slot with the fields that a CoA names: Session-Timeout, Idle-Timeout, Filter-Id
+unfoldable pub altered : List ℕ → Alteration → List ℕ → List ℕ
+altered p a s = setText p (a .filter) 148 (setNumber (a .idle) 14 (setNumber (a .timeout) 10 s))
+
+-- a slot ended or altered
+unfoldable pub changed : List ℕ → Change → List ℕ → List ℕ
+changed p End s = replicate 192 0
+changed p (Alter a) s = altered p a s
+
+-- a table with slot k ended or altered
+unfoldable pub changeAt : List ℕ → Change → ℕ → List ℕ → List ℕ
+changeAt p c k t = write t (k * 192) (changed p c (slot k t))
+
+-- slot k is marked and live
+abbrev pub marked : List ℕ → List ℕ → ℕ → Bool
+marked marks t k = eqb (getD marks k 0) 1 && live (slot k t)
+
+-- the table with each of its first k slots that is marked and live changed
+unfoldable pub changeMarked : List ℕ → Change → List ℕ → ℕ → List ℕ → List ℕ
+changeMarked p c marks zero t = t
+changeMarked p c marks (suc k) t = cond (marked marks t k) (changeAt p c k (changeMarked p c marks k t)) (changeMarked p c marks k t)
+
+-- how many of them there are
+unfoldable pub countMarked : List ℕ → ℕ → List ℕ → ℕ
+countMarked marks k t = countTo (marked marks t) k

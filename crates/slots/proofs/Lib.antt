@@ -1,0 +1,13 @@
+pub mod Count
+pub mod Live
+pub mod Reading
+pub mod Fields
+pub mod Words
+pub mod Walk
+pub mod Marks
+pub mod Turns
+pub mod Overwrite
+pub mod Places
+pub mod Whole
+pub mod Kept
+pub mod Marked

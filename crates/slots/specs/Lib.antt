@@ -1,0 +1,3 @@
+pub mod Slot
+pub mod Matching
+pub mod Marks
