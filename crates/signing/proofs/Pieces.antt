@@ -5,7 +5,7 @@ use mathlib.Core.List.{List, [], _++_, append-assoc}
 use Prim.Native.Nat.{ℕ, _+_, _-_, _%_, _≤_}
 use native.Mathlib.Omega.{arith}
 use lib.ListN.{length, take, drop, replicate, length-append, length-take, length-drop}
-use lib.Seq.{take-append-add, drop-append-add, take-take, drop-drop}
+use lib.Seq.{take-all, take-append-add, drop-append-add, take-take, drop-drop}
 use Rattle.octets.specs.Runs.{part, write, equalBytes}
 use Rattle.octets.proofs.Part.{part-whole}
 use Rattle.octets.proofs.Write.{write-then}
@@ -26,8 +26,11 @@ then : (n e : ℕ) (m s : List ℕ) (q r : State) (b b′ : List ℕ) → Update
 then n e m s q r b b′ update count held = held-as (n + length s) e (m ++ s) (m ++ s) r b′ count refl (update m held)
 
 -- the front of a packet, by two copies
-pub fronted : (b b₁ b₂ p auth : List ℕ) → b₁ ≡ write b 0 (take 4 p) → b₂ ≡ write b₁ 4 auth → 20 ≤ length p → b₂ ≡ write b 0 (take 4 p ++ auth)
-fronted b b₁ b₂ p auth e g h = write-then b₁ b₂ b 0 4 (take 4 p) auth e g (sym (simp length-take (omega arith)))
+pub fronted : (b b₁ b₂ p auth : List ℕ) → b₁ ≡ write b 0 (take 4 p) → b₂ ≡ write b₁ 4 (take 16 auth) → 20 ≤ length p → length auth ≡ 16
+    → b₂ ≡ write b 0 (take 4 p ++ auth)
+fronted b b₁ b₂ p auth e g h l =
+    let all : take 16 auth ≡ auth = take-all 16 auth (omega arith) in
+    write-then b₁ b₂ b 0 4 (take 4 p) auth e (g ∙ rw all) (sym (simp length-take (omega arith)))
 
 -- what comes before the attributes
 abbrev front : List ℕ → List ℕ → List ℕ
