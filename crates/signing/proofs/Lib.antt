@@ -1,4 +1,5 @@
 pub mod Messages
+pub mod Blanked
 pub mod Pieces
 pub mod Stepwise
 mod Windows

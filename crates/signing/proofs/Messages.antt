@@ -7,6 +7,8 @@ use native.Mathlib.Nat.{sub-zero}
 use native.Mathlib.Omega.{arith}
 use lib.ListN.{length, take, drop, length-append, length-take, length-drop}
 use lib.Seq.{take-nil, take-take, take-append-le, length-take-le}
+use Rattle.octets.specs.Runs.{part, write}
+use Rattle.octets.proofs.Part.{part-before, part-behind}
 use Rattle.md5.proofs.After.{length-md5}
 use Rattle.hmac.proofs.Runs.{length-hmac}
 use Rattle.signing.specs.Signing.{zeros, withAuth, signed, authenticator, messageAuthenticator}
@@ -60,6 +62,15 @@ pub padding-ignored : (n : ℕ) (p x : List ℕ) → 4 ≤ n → n ≤ length p 
 padding-ignored n p x h f =
     let l : length (take n p) ≡ n = length-take-le n p f in
     same-first n (take n p ++ x) p h (take-append-le n (take n p) x (omega arith) ∙ take-take n n p (omega arith))
+
+-- so do the bytes in the authenticator's place
+pub field-ignored : (n : ℕ) (p v : List ℕ) → length v ≡ 16 → Alike n (write p 4 v) p
+unfolding part
+field-ignored n p v l =
+    record {
+      head = part-before p 4 v 0 4 (omega arith);
+      attributes = drop-take 20 n (write p 4 v) ∙ part-behind p 4 v 20 (n - 20) (omega arith) ∙ sym (drop-take 20 n p);
+    }
 
 module _ (n : ℕ) (p p′ : List ℕ) (alike : Alike n p p′) (auth : List ℕ) where
   pub same-withAuth : withAuth auth p n ≡ withAuth auth p′ n

@@ -1,11 +1,11 @@
 -- The signatures as runs of calls: each call says what it holds of every message, and the pieces handed over are the definition's message.
 -- Assumes nothing.
-use mathlib.Core.Path.{_≡_, refl, sym, ap, _∙_}
+use mathlib.Core.Path.{_≡_, refl, sym, _∙_}
 use mathlib.Core.List.{List, [], _++_, append-assoc}
-use Prim.Native.Nat.{ℕ, _+_, _-_, _%_, _≤_}
+use Prim.Native.Nat.{ℕ, _+_, _%_, _≤_}
 use native.Mathlib.Omega.{arith}
-use lib.ListN.{length, take, drop, replicate, length-append, length-take, length-drop}
-use lib.Seq.{take-append-add, drop-append-add, take-take, drop-drop}
+use lib.ListN.{length, take, replicate, length-take}
+use lib.Seq.{take-all}
 use Rattle.octets.specs.Runs.{part, write, equalBytes}
 use Rattle.octets.proofs.Part.{part-whole}
 use Rattle.octets.proofs.Write.{write-then}
@@ -14,8 +14,9 @@ use Rattle.md5.specs.Md5.{initial, md5}
 use Rattle.digest.specs.Held.{Held}
 use Rattle.digest.proofs.Pieces.{held-as, held-none, held-short}
 use Rattle.hmac.specs.Hmac.{innerPad, hmac}
-use Rattle.signing.specs.Signing.{zeros, withAuth, signed, blanked, authenticator, messageAuthenticator}
+use Rattle.signing.specs.Signing.{withAuth, signed, authenticator, messageAuthenticator}
 use Rattle.signing.proofs.Messages.{between, drop-take}
+use Rattle.signing.proofs.Blanked.{front, length-front, length-between, blanked-pieces}
 
 -- a call of `update` with the piece s
 abbrev Updated : ℕ → List ℕ → State → List ℕ → State → List ℕ → Type 0
@@ -26,27 +27,20 @@ then : (n e : ℕ) (m s : List ℕ) (q r : State) (b b′ : List ℕ) → Update
 then n e m s q r b b′ update count held = held-as (n + length s) e (m ++ s) (m ++ s) r b′ count refl (update m held)
 
 -- the front of a packet, by two copies
-pub fronted : (b b₁ b₂ p auth : List ℕ) → b₁ ≡ write b 0 (take 4 p) → b₂ ≡ write b₁ 4 auth → 20 ≤ length p → b₂ ≡ write b 0 (take 4 p ++ auth)
-fronted b b₁ b₂ p auth e g h = write-then b₁ b₂ b 0 4 (take 4 p) auth e g (sym (simp length-take (omega arith)))
-
--- what comes before the attributes
-abbrev front : List ℕ → List ℕ → List ℕ
-front p auth = take 4 p ++ auth
+pub fronted : (b b₁ b₂ p auth : List ℕ) → b₁ ≡ write b 0 (take 4 p) → b₂ ≡ write b₁ 4 (take 16 auth) → 20 ≤ length p → length auth ≡ 16
+    → b₂ ≡ write b 0 (take 4 p ++ auth)
+fronted b b₁ b₂ p auth e g h l =
+    let all : take 16 auth ≡ auth = take-all 16 auth (omega arith) in
+    write-then b₁ b₂ b 0 4 (take 4 p) auth e (g ∙ rw all) (sym (simp length-take (omega arith)))
 
 module _ (auth p : List ℕ) (n : ℕ) (low : 20 ≤ n) (fits : n ≤ length p) (long : length auth ≡ 16) where
-  length-front : length (front p auth) ≡ 20
-  length-front = simp (length-append, length-take) (omega arith)
-
   -- the front in a buffer where no block is begun
   held-front : (x : ℕ) (m : List ℕ) (q : State) (b b′ : List ℕ) → x % 64 ≡ 0 → b′ ≡ write b 0 (front p auth) → length b ≡ 64
       → Held x m q b → Held (x + 20) (m ++ front p auth) q b′
   held-front x m q b b′ z e lb held =
-      let l : length (front p auth) ≡ 20 = length-front in
+      let l : length (front p auth) ≡ 20 = length-front auth p (omega arith) long in
       held-as (x + length (front p auth)) (x + 20) (m ++ front p auth) (m ++ front p auth) q b′ (omega arith) refl
       (held-short x m q b held (front p auth) b′ (rw z e) (omega arith) lb)
-
-  length-between : (i e : ℕ) → i ≤ e → e ≤ n → length (between i e p) ≡ e - i
-  length-between i e h g = simp (length-take, length-drop) (omega arith)
 
   -- the front, the attributes, the secret
   pub signed-run : (secret : List ℕ) (q₀ q₁ q₂ : State) (b₀ b₁ b₂ b₃ d : List ℕ) → b₁ ≡ write b₀ 0 (front p auth) → length b₀ ≡ 64 → q₀ ≡ initial
@@ -54,32 +48,12 @@ module _ (auth p : List ℕ) (n : ℕ) (low : 20 ≤ n) (fits : n ≤ length p) 
       → d ≡ authenticator auth p n secret
   unfolding authenticator signed withAuth
   signed-run secret q₀ q₁ q₂ b₀ b₁ b₂ b₃ d e lb i first second last =
-      let l = length-between 20 n low (omega arith) in
+      let l = length-between 20 n p low (omega arith) in
       let h₀ : Held 20 (front p auth) q₀ b₁ = held-front 0 [] q₀ b₀ b₁ refl e lb (rw i (held-none b₀)) in
       let h₁ = then 20 n (front p auth) (between 20 n p) q₀ q₁ b₁ b₂ first (omega arith) h₀ in
       rw (drop-take 20 n p) (last (front p auth ++ between 20 n p ++ secret) (second (front p auth ++ between 20 n p) h₁))
 
   module _ (at : ℕ) (from : 20 ≤ at) (to : at + 16 ≤ n) where
-    -- the blanked message in pieces
-    blanked-pieces : blanked at (withAuth auth p n) ≡ front p auth ++ between 20 at p ++ replicate 16 0 ++ between (at + 16) n p
-    unfolding blanked withAuth
-    blanked-pieces =
-        let l : length (front p auth) ≡ 20 = length-front in
-        let i : at ≡ length (front p auth) + (at - 20) = omega arith in
-        let j : at + 16 ≡ length (front p auth) + (at - 4) = omega arith in
-        let d : 20 + (at - 4) ≡ at + 16 = omega arith in
-        let x : take at (front p auth ++ drop 20 (take n p)) ≡ front p auth ++ between 20 at p =
-        ap (λ (k : ℕ). take k (front p auth ++ drop 20 (take n p))) i
-        ∙ take-append-add (front p auth) (drop 20 (take n p)) (at - 20)
-        ∙ rw (drop-take 20 n p, take-take (at - 20) (n - 20) (drop 20 p) (omega arith)) in
-        let y : drop (at + 16) (front p auth ++ drop 20 (take n p)) ≡ between (at + 16) n p =
-        ap (λ (k : ℕ). drop k (front p auth ++ drop 20 (take n p))) j
-        ∙ drop-append-add (front p auth) (drop 20 (take n p)) (at - 4)
-        ∙ drop-drop (at - 4) 20 (take n p)
-        ∙ ap (λ (k : ℕ). drop k (take n p)) d
-        ∙ drop-take (at + 16) n p in
-        rw (x, y)
-
     -- behind the key's block: the front, the attributes up to the value, zeros, the attributes behind it
     pub mac-run : (secret z : List ℕ) (q₀ q₁ q₂ q₃ : State) (b₀ b₁ b₂ b₃ b₄ d : List ℕ) → b₁ ≡ write b₀ 0 (front p auth) → length b₀ ≡ 64 → z ≡ replicate 16 0
         → ((l : List ℕ) → Held 64 (innerPad secret) q₀ l) → Updated 84 (between 20 at p) q₀ b₁ q₁ b₂ → Updated (at + 64) z q₁ b₂ q₂ b₃
@@ -91,14 +65,15 @@ module _ (auth p : List ℕ) (n : ℕ) (low : 20 ≤ n) (fits : n ≤ length p) 
         let f = front p auth in
         let x = between 20 at p in
         let y = between (at + 16) n p in
-        let lx = length-between 20 at from (omega arith) in
-        let ly = length-between (at + 16) n to (omega arith) in
+        let lx = length-between 20 at p from (omega arith) in
+        let ly = length-between (at + 16) n p to (omega arith) in
         let lz : length z ≡ 16 = rw ez in
         let h₀ = held-front 64 k q₀ b₀ b₁ refl e lb (start b₀) in
         let h₁ = then 84 (at + 64) (k ++ f) x q₀ q₁ b₁ b₂ first (omega arith) h₀ in
         let h₂ = then (at + 64) (at + 80) (k ++ f ++ x) z q₁ q₂ b₂ b₃ second (omega arith) h₁ in
         let h₃ = then (at + 80) (n + 64) (k ++ f ++ x ++ z) y q₂ q₃ b₃ b₄ third (omega arith) h₂ in
-        rw (blanked-pieces, ← ez) (last (f ++ x ++ z ++ y) (held-as (n + 64) (n + 64) (k ++ f ++ x ++ z ++ y) (k ++ (f ++ x ++ z ++ y)) q₃ b₄ refl (simp append-assoc) h₃))
+        rw (blanked-pieces auth p n at fits long from to, ← ez)
+        (last (f ++ x ++ z ++ y) (held-as (n + 64) (n + 64) (k ++ f ++ x ++ z ++ y) (k ++ (f ++ x ++ z ++ y)) q₃ b₄ refl (simp append-assoc) h₃))
 
 -- sixteen bytes are compared with all of a digest
 pub compared : (a d s : List ℕ) (r : _) → r ≡ equalBytes a (part 0 16 d) → d ≡ s → length s ≡ 16 → r ≡ equalBytes a s

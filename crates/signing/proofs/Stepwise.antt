@@ -1,17 +1,16 @@
--- The request authenticator block by block.
--- Assumes nothing.
-use mathlib.Core.Path.{_≡_, refl, sym, ap, _∙_}
-use mathlib.Core.List.{List, _++_, append-assoc}
-use Prim.Native.Nat.{ℕ, suc, _+_, _-_, _*_, _/_, _%_, _≤_, _<_}
+-- The request authenticator block by block. The words after k blocks are worked out block by block in MD5's own definition, and the padded
+-- message has as many blocks as its length says, so the last words are the authenticator. Assumes nothing.
+use mathlib.Core.Path.{_≡_, refl}
+use mathlib.Core.List.{List}
+use Prim.Native.Nat.{ℕ, suc, _+_, _≤_, _<_}
 use native.Mathlib.Omega.{arith}
-use lib.ListN.{length, take, drop, length-append, length-take, length-drop}
-use lib.Seq.{take-all, take-take, take-append-le, drop-append-le, drop-append-add, drop-drop}
+use lib.ListN.{length, length-take, length-drop}
 use Rattle.md5.specs.declared.State.{State}
-use Rattle.md5.specs.Md5.{initial, output, after, blockAt, padding, pad, md5Block, md5}
+use Rattle.md5.specs.Md5.{initial, output, md5}
 use Rattle.md5.proofs.After.{block-count, length-pad}
-use Rattle.signing.specs.Signing.{zeros, withAuth, signed, authenticator}
+use Rattle.signing.specs.Signing.{zeros, signed, authenticator}
 use Rattle.signing.specs.Block.{blockCount, requestBlock, hashed, hashedTo}
-use Rattle.signing.proofs.Messages.{Alike, between, drop-take, length-zeros, length-signed, same-signed}
+use Rattle.signing.proofs.Messages.{Alike, length-zeros, length-signed, same-signed}
 
 pub blocks-none : (p : List ℕ) (n : ℕ) (secret : List ℕ) → hashedTo 0 p n secret ≡ initial
 unfolding hashedTo

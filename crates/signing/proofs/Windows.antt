@@ -1,11 +1,10 @@
 -- A block as a window on a message that grows: a part laid behind the message is seen where it overlaps the window. The three cases go by
 -- where the part begins: before the window, in it, or behind it. Assumes nothing.
-use mathlib.Core.Path.{_≡_, refl, sym, ap, _∙_}
-use mathlib.Core.List.{List, [], _∷_, _++_, append-assoc}
-use Prim.Native.Nat.{ℕ, _+_, _-_, _*_, _/_, _%_, _<_, _≤_}
-use native.Mathlib.Nat.{zero-add}
+use mathlib.Core.Path.{_≡_, sym, ap, _∙_}
+use mathlib.Core.List.{List, [], _++_}
+use Prim.Native.Nat.{ℕ, _+_, _-_, _<_, _≤_}
 use native.Mathlib.Omega.{arith}
-use lib.ListN.{length, take, drop, replicate, length-append, length-take, length-drop, length-replicate, drop-of-length-le}
+use lib.ListN.{length, take, drop, replicate, length-take, length-drop, drop-of-length-le}
 use lib.Seq.{take-nil, drop-nil, take-all, take-append-le, take-append-add, drop-append-le, drop-append-add}
 use Rattle.octets.specs.Runs.{part, write}
 use Rattle.octets.proofs.Write.{write-nil, write-then, write-whole}

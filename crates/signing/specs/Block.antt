@@ -2,7 +2,6 @@
 -- Assumes nothing.
 use mathlib.Core.List.{List}
 use Prim.Native.Nat.{ℕ, _+_, _/_}
-use lib.ListN.{length}
 use Rattle.md5.specs.declared.State.{State}
 use Rattle.md5.specs.Md5.{md5Block, blockAt, after, initial, pad}
 use Rattle.signing.specs.Signing.{zeros, signed}

@@ -16,7 +16,7 @@ fn front(buf: &mut [u8], p: &[u8], auth: &[u8])
     ensures { λ _. ⌜ now (buf .exit) ≡ write (now (buf .entry)) 0 (take 4 (now (p .entry)) ++ now (auth .entry)) ⌝ }
 {
     octets::copy(&mut *buf, 0, &p[..4]);
-    octets::copy(buf, 4, auth);
+    octets::copy(buf, 4, &auth[..16]);
 }
 
 // The authenticator of a packet: auth is the request's authenticator for a reply.
@@ -36,8 +36,8 @@ pub fn request_authenticator(p: &[u8], n: usize, secret: &[u8]) -> [u8; 16]
     requires { ⌜ (20 ≤ n) × (n ≤ length (now p)) ⌝ }
     ensures { λ r. ⌜ r ≡ authenticator zeros (now (p .entry)) n (now (secret .entry)) ⌝ }
 {
-    let zero = [0u8; 16];
-    authenticator(p, n, &zero, secret)
+    let zeros = [0u8; 16];
+    authenticator(p, n, &zeros, secret)
 }
 
 // The Message-Authenticator whose value stands at place at: auth is zeros for a request, the request's authenticator for a reply.

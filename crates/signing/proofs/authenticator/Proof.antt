@@ -13,7 +13,9 @@ returns c =
     let initial = first .before .before in
     let front = initial .before .before .before in
     let start = front .before .before .before .before .before in
-    signed-run (now (start .args .auth)) (now (start .args .p)) (start .args .n) (search needs) (search needs) (search needs) (now (start .args .secret)) _ _ _ _ _ _ _ _ (front .front .ensures) (search needs) (initial .initial .ensures) (first .update .ensures) (second .update2 .ensures) (c .before .finish .ensures)
+    signed-run (now (start .args .auth)) (now (start .args .p)) (start .args .n) (search needs) (search needs) (search needs)
+    (now (start .args .secret)) _ _ _ _ _ _ _ _ (front .front .ensures) (search needs) (initial .initial .ensures)
+    (first .update .ensures) (second .update2 .ensures) (c .before .finish .ensures)
 
 pub authenticator-spec : {M : Type 1} → statement M
 authenticator-spec =

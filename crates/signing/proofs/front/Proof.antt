@@ -13,6 +13,12 @@ slice-aggregate-copy c = simp length-take (omega arith)
 copy-requires : tie.Need-copy-requires
 copy-requires c κs = simp length-take (omega arith)
 
+slice-aggregate-copy-2 : tie.Need-slice-aggregate-copy-2
+slice-aggregate-copy-2 c = simp length-take (omega arith)
+
+copy-requires-2 : tie.Need-copy-requires-2
+copy-requires-2 c κs = simp length-take (omega arith)
+
 returns : tie.Need-returns
 returns c = search (needs, fronted)
 
@@ -22,6 +28,7 @@ front-spec =
     (tie.spec
     slice-aggregate-copy
     copy-requires
-    (λ c κs. search needs)
+    slice-aggregate-copy-2
+    copy-requires-2
     (λ c. search needs)
     returns)

@@ -16,7 +16,10 @@ returns c =
     let key = first .before .before in
     let front = key .before .before .before in
     let start = front .before .before .before .before .before in
-    mac-run (now (start .args .auth)) (now (start .args .p)) (start .args .n) (omega (arith, start .pre)) (omega (arith, start .pre)) (omega (arith, start .pre)) (start .args .at) (omega (arith, start .pre)) (omega (arith, start .pre)) (now (start .args .secret)) _ _ _ _ _ _ _ _ _ _ _ (front .front .ensures) (search needs) refl (key .start .ensures) (first .update .ensures) (second .update2 .ensures) (third .update3 .ensures) (c .before .finish .ensures)
+    mac-run (now (start .args .auth)) (now (start .args .p)) (start .args .n)
+    (omega (arith, start .pre)) (omega (arith, start .pre)) (omega (arith, start .pre)) (start .args .at) (omega (arith, start .pre)) (omega (arith, start .pre))
+    (now (start .args .secret)) _ _ _ _ _ _ _ _ _ _ _ (front .front .ensures) (search needs) refl (key .start .ensures)
+    (first .update .ensures) (second .update2 .ensures) (third .update3 .ensures) (c .before .finish .ensures)
 
 pub message-authenticator-spec : {M : Type 1} → statement M
 message-authenticator-spec =
