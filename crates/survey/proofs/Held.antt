@@ -16,9 +16,9 @@ use Rattle.survey.specs.declared.Flags.{Flags}
 use Rattle.survey.specs.Types.{supported, unsupportedIn, misfitOf, misfitting, member, among, criteria, changes, firstRepeated, also, none}
 use Rattle.survey.specs.Classes.{classOf, says}
 use Rattle.survey.specs.Survey.{zeros, seenAt, endOf, sizeOf, Counted}
-use Rattle.survey.specs.Turns.{lacking, misfitBy, unmarked, fitted, marked, countedAt, keptAt}
+use Rattle.survey.specs.Turns.{lacking, misfitBy, unmarked, marked, countedAt, keptAt}
 use Rattle.survey.proofs.Table.{says-criterion, says-change, says-service}
-use Rattle.survey.proofs.Rules.{lacks-class, misfit-class, supported-33}
+use Rattle.survey.proofs.Rules.{lacks-class, misfit-class, supported-33, fits-33}
 use Rattle.survey.proofs.Notes.{counted-long, kept-long}
 use Rattle.survey.proofs.Repeats.{same-seen, also-33, also-counted}
 use Rattle.survey.proofs.Types.{Number, First, number-turn, first-turn, zero-at, number-start, first-start, number-end, first-end}
@@ -62,30 +62,53 @@ module _ (p : Attribute → Bool) (w l : List Attribute) (a : Attribute) (u : Bo
   flag-stays : p a ≡ false → Flag p w l u
   flag-stays q = stays (any p w) u (p a) a (firstOf p l) e q
 
--- ---- the two turns
+-- ---- a turn of type 33, which is not counted, and one of any other type
 
 module _ (code : ℕ) (w l : List Attribute) (a : Attribute) (count ends sizes : List ℕ) (f : Flags) (i : Held code w (a ∷ l) count ends sizes f) where
-  -- type 33: supported in every request, and no answer but that on its length
-  pub turn-33 : a .kind ≡ 33 → Held code w l count ends sizes (fitted (classOf (a .kind)) (a .size) f)
-  turn-33 e =
-      let ne : (k : ℕ) → (k ≡ 33 → ⊥) → eqb (a .kind) k ≡ false = λ k p. ne-eqb (a .kind) k (λ q. p (sym q ∙ e)) in
-      record {
-        counts = i .counts;
-        places = i .places;
-        lengths = i .lengths;
-        tiled = i .tiled;
-        unsupported = flag-stays (unsupportedIn code) w l a (f .unsupported) (i .unsupported) (rw (e, supported-33 code));
-        service = flag-stays (kindIs 6) w l a (f .service) (i .service) (rw e);
-        repeated =
-            stays (found (firstRepeated none w)) (f .repeated) (not (eqb (a .kind) 33) && seenAt count (a .kind)) a (firstRepeated (also (a .kind) (seenAt count)) l) (i .repeated) (rw (eq-eqb _ _ e))
-            ∙ ap (λ (x : Search). f .repeated || found x) (same-seen _ _ l (λ k p. also-33 (seenAt count) (a .kind) k e p));
-        misfit = flag-joins misfitting w l a (f .misfit) (i .misfit) _ (misfit-class (a .kind) (a .size));
-        criterion = flag-stays (among criteria) w l a (f .criterion) (i .criterion) (rw e);
-        change = flag-stays (among changes) w l a (f .change) (i .change) (rw e);
-        number = λ k p. record { number = i .number k p .number ∙ rw (ne k p); low = i .number k p .low };
-        end = λ k p. record { value = i .end k p .value ∙ rw (ne k p); empty = i .end k p .empty };
-        size = λ k p. record { value = i .size k p .value ∙ rw (ne k p); empty = i .size k p .empty };
-      }
+  module _ (e : a .kind ≡ 33) where
+    other : (k : ℕ) → (k ≡ 33 → ⊥) → eqb (a .kind) k ≡ false
+    other k p = ne-eqb (a .kind) k (λ q. p (sym q ∙ e))
+
+    -- with flags g that the rules on one attribute give, the rest stays
+    uncounted : (g : Flags) → g .tiled ≡ true → g .repeated ≡ f .repeated → Flag (unsupportedIn code) w l (g .unsupported) → Flag (kindIs 6) w l (g .service) → Flag misfitting w l (g .misfit)
+        → Flag (among criteria) w l (g .criterion) → Flag (among changes) w l (g .change) → Held code w l count ends sizes g
+    uncounted g t r u v m c d =
+        record {
+          counts = i .counts;
+          places = i .places;
+          lengths = i .lengths;
+          tiled = t;
+          unsupported = u;
+          service = v;
+          repeated =
+              stays (found (firstRepeated none w)) (f .repeated) (not (eqb (a .kind) 33) && seenAt count (a .kind)) a (firstRepeated (also (a .kind) (seenAt count)) l) (i .repeated) (rw (eq-eqb _ _ e))
+              ∙ ap (λ (x : Search). f .repeated || found x) (same-seen _ _ l (λ k p. also-33 (seenAt count) (a .kind) k e p))
+              ∙ ap (λ (b : Bool). b || found (firstRepeated (seenAt count) l)) (sym r);
+          misfit = m;
+          criterion = c;
+          change = d;
+          number = λ k p. record { number = i .number k p .number ∙ rw (other k p); low = i .number k p .low };
+          end = λ k p. record { value = i .end k p .value ∙ rw (other k p); empty = i .end k p .empty };
+          size = λ k p. record { value = i .size k p .value ∙ rw (other k p); empty = i .size k p .empty };
+        }
+
+    -- of another length than 2 it breaks no rule: it is supported in every request
+    pub turn-33 : (a .size ≡ 2 → ⊥) → Held code w l count ends sizes f
+    turn-33 n =
+        uncounted f (i .tiled) refl (flag-stays (unsupportedIn code) w l a (f .unsupported) (i .unsupported) (rw (e, supported-33 code)))
+        (flag-stays (kindIs 6) w l a (f .service) (i .service) (rw e))
+        (flag-stays misfitting w l a (f .misfit) (i .misfit) (rw e (fits-33 (a .size) n)))
+        (flag-stays (among criteria) w l a (f .criterion) (i .criterion) (rw e))
+        (flag-stays (among changes) w l a (f .change) (i .change) (rw e))
+
+    pub turn-empty : Held code w l count ends sizes (marked code (classOf (a .kind)) (a .size) false f)
+    turn-empty =
+        uncounted (marked code (classOf (a .kind)) (a .size) false f) (i .tiled) (or-false (f .repeated))
+        (flag-joins (unsupportedIn code) w l a (f .unsupported) (i .unsupported) _ (lacks-class code (a .kind)))
+        (flag-joins (kindIs 6) w l a (f .service) (i .service) _ (says-service (a .kind)))
+        (flag-joins misfitting w l a (f .misfit) (i .misfit) _ (misfit-class (a .kind) (a .size)))
+        (flag-joins (among criteria) w l a (f .criterion) (i .criterion) _ (says-criterion (a .kind)))
+        (flag-joins (among changes) w l a (f .change) (i .change) _ (says-change (a .kind)))
 
   pub turn-other : eqb (a .kind) 33 ≡ false → a .kind < 256
       → Held code w l (countedAt count (a .kind)) (keptAt count ends (a .kind) (a .at + a .size)) (keptAt count sizes (a .kind) (a .size))
