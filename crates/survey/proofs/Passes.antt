@@ -19,7 +19,8 @@ use Rattle.survey.specs.Classes.{classOf, says}
 use Rattle.survey.specs.Survey.{Surveyed, seenAt}
 use Rattle.survey.specs.Turns.{marked, cut, countedAt, keptAt}
 use Rattle.survey.proofs.Rules.{repeats-33, repeats-not}
-use Rattle.survey.proofs.Held.{Held, turn-33, turn-empty, turn-other, ends-types}
+use Rattle.survey.proofs.Held.{Held, ends-types}
+use Rattle.survey.proofs.Turning.{turn-33, turn-empty, turn-other}
 
 pub end-fits : (s : List ℕ) (at next : ℕ) (a : Attribute) (x : Step) → x ≡ stepAt s at → x ≡ Found a next → length s ≤ 4096 → Fits w16 next
 end-fits s at next a x q r l = let p = found-placed s at next a x q r in record { fits = omega arith }
