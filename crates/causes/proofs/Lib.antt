@@ -1,2 +1,4 @@
 pub mod Lookups
 pub mod Answers
+pub mod Firsts
+pub mod Passed

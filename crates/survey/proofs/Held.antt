@@ -1,30 +1,22 @@
 -- What a pass holds between two attributes: w are all attributes, l those that are left. The answers on w are what is held, completed by the answers on l.
--- Each flag is one law: the head of the list joins what is held.
+-- Before the first attribute nothing is held; behind the last what is held is the answer.
 -- Assumes nothing.
-use mathlib.Core.Path.{_≡_, refl, sym, ap, _∙_}
-use mathlib.Core.Bool.{Bool, true, false, cond, not, _&&_, _||_, or-assoc, or-false}
-use mathlib.Core.List.{List, [], _∷_}
-use Prim.Native.Nat.{ℕ, _+_, _<_}
-use lib.Dec.{eqb}
-use lib.ListN.{length, replicate, length-replicate}
-use borrow.Author.Tests.{eq-eqb, ne-eqb, eqb-false}
+use mathlib.Core.Path.{_≡_, refl, sym, ap}
+use mathlib.Core.Bool.{Bool, true, _||_}
+use mathlib.Core.List.{List, []}
+use Prim.Native.Nat.{ℕ}
+use lib.ListN.{length, length-replicate}
 use Rattle.attributes.specs.declared.Attribute.{Attribute}
-use Rattle.attributes.specs.declared.Search.{Search}
-use Rattle.attributes.specs.declared.Search.the-variants.{At, Missing}
-use Rattle.attributes.specs.Attributes.{any, found, firstOf, countOf, kindIs}
+use Rattle.attributes.specs.Attributes.{any, found, kindIs}
 use Rattle.survey.specs.declared.Flags.{Flags}
-use Rattle.survey.specs.Types.{supported, unsupportedIn, misfitOf, misfitting, member, among, criteria, changes, firstRepeated, also, none}
-use Rattle.survey.specs.Classes.{classOf, says}
+use Rattle.survey.specs.Types.{unsupportedIn, misfitting, among, criteria, changes, firstRepeated, none}
 use Rattle.survey.specs.Survey.{zeros, seenAt, endOf, sizeOf, Counted}
-use Rattle.survey.specs.Turns.{lacking, misfitBy, unmarked, fitted, marked, countedAt, keptAt}
-use Rattle.survey.proofs.Table.{says-criterion, says-change, says-service}
-use Rattle.survey.proofs.Rules.{lacks-class, misfit-class, supported-33}
-use Rattle.survey.proofs.Notes.{counted-long, kept-long}
-use Rattle.survey.proofs.Repeats.{same-seen, also-33, also-counted}
-use Rattle.survey.proofs.Types.{Number, First, number-turn, first-turn, zero-at, number-start, first-start, number-end, first-end}
+use Rattle.survey.specs.Turns.{unmarked}
+use Rattle.survey.proofs.Repeats.{same-seen}
+use Rattle.survey.proofs.Types.{Number, First, zero-at, number-start, first-start, number-end, first-end}
 
 -- one flag: x so far
-abbrev Flag : (Attribute → Bool) → List Attribute → List Attribute → Bool → Type 0
+abbrev pub Flag : (Attribute → Bool) → List Attribute → List Attribute → Bool → Type 0
 Flag p w l x = any p w ≡ (x || any p l)
 
 pub record Held (code : ℕ) (w l : List Attribute) (count ends sizes : List ℕ) (f : Flags) : Type 0 where
@@ -41,76 +33,6 @@ pub record Held (code : ℕ) (w l : List Attribute) (count ends sizes : List ℕ
   pub number : (k : ℕ) → (k ≡ 33 → ⊥) → Number w l k count
   pub end : (k : ℕ) → (k ≡ 33 → ⊥) → First endOf w l k count ends
   pub size : (k : ℕ) → (k ≡ 33 → ⊥) → First sizeOf w l k count sizes
-
--- ---- one flag, one turn
-
-found-cond : (b : Bool) (a : Attribute) (x : Search) → found (cond b (At a) x) ≡ (b || found x)
-found-cond true a x = refl
-found-cond false a x = refl
-
-joins : (z u b : Bool) (a : Attribute) (x : Search) → z ≡ (u || found (cond b (At a) x)) → (y : Bool) → y ≡ b → z ≡ ((u || y) || found x)
-joins z u b a x e y q =
-    e ∙ ap (λ (v : Bool). u || v) (found-cond b a x) ∙ sym (or-assoc u b (found x)) ∙ ap (λ (v : Bool). (u || v) || found x) (sym q)
-
-stays : (z u b : Bool) (a : Attribute) (x : Search) → z ≡ (u || found (cond b (At a) x)) → b ≡ false → z ≡ (u || found x)
-stays z u b a x e q = e ∙ rw q
-
-module _ (p : Attribute → Bool) (w l : List Attribute) (a : Attribute) (u : Bool) (e : Flag p w (a ∷ l) u) where
-  flag-joins : (y : Bool) → y ≡ p a → Flag p w l (u || y)
-  flag-joins y q = joins (any p w) u (p a) a (firstOf p l) e y q
-
-  flag-stays : p a ≡ false → Flag p w l u
-  flag-stays q = stays (any p w) u (p a) a (firstOf p l) e q
-
--- ---- the two turns
-
-module _ (code : ℕ) (w l : List Attribute) (a : Attribute) (count ends sizes : List ℕ) (f : Flags) (i : Held code w (a ∷ l) count ends sizes f) where
-  -- type 33: supported in every request, and no answer but that on its length
-  pub turn-33 : a .kind ≡ 33 → Held code w l count ends sizes (fitted (classOf (a .kind)) (a .size) f)
-  turn-33 e =
-      let ne : (k : ℕ) → (k ≡ 33 → ⊥) → eqb (a .kind) k ≡ false = λ k p. ne-eqb (a .kind) k (λ q. p (sym q ∙ e)) in
-      record {
-        counts = i .counts;
-        places = i .places;
-        lengths = i .lengths;
-        tiled = i .tiled;
-        unsupported = flag-stays (unsupportedIn code) w l a (f .unsupported) (i .unsupported) (rw (e, supported-33 code));
-        service = flag-stays (kindIs 6) w l a (f .service) (i .service) (rw e);
-        repeated =
-            stays (found (firstRepeated none w)) (f .repeated) (not (eqb (a .kind) 33) && seenAt count (a .kind)) a (firstRepeated (also (a .kind) (seenAt count)) l) (i .repeated) (rw (eq-eqb _ _ e))
-            ∙ ap (λ (x : Search). f .repeated || found x) (same-seen _ _ l (λ k p. also-33 (seenAt count) (a .kind) k e p));
-        misfit = flag-joins misfitting w l a (f .misfit) (i .misfit) _ (misfit-class (a .kind) (a .size));
-        criterion = flag-stays (among criteria) w l a (f .criterion) (i .criterion) (rw e);
-        change = flag-stays (among changes) w l a (f .change) (i .change) (rw e);
-        number = λ k p. record { number = i .number k p .number ∙ rw (ne k p); low = i .number k p .low };
-        end = λ k p. record { value = i .end k p .value ∙ rw (ne k p); empty = i .end k p .empty };
-        size = λ k p. record { value = i .size k p .value ∙ rw (ne k p); empty = i .size k p .empty };
-      }
-
-  pub turn-other : eqb (a .kind) 33 ≡ false → a .kind < 256
-      → Held code w l (countedAt count (a .kind)) (keptAt count ends (a .kind) (a .at + a .size)) (keptAt count sizes (a .kind) (a .size))
-      (marked code (classOf (a .kind)) (a .size) (seenAt count (a .kind)) f)
-  turn-other ne h =
-      let hc : a .kind < length count = rw (i .counts) h in
-      let he : a .kind < length ends = rw (i .places) h in
-      let hs : a .kind < length sizes = rw (i .lengths) h in
-      record {
-        counts = counted-long count (a .kind) 256 (i .counts);
-        places = kept-long count ends (a .kind) (a .at + a .size) 256 (i .places);
-        lengths = kept-long count sizes (a .kind) (a .size) 256 (i .lengths);
-        tiled = i .tiled;
-        unsupported = flag-joins (unsupportedIn code) w l a (f .unsupported) (i .unsupported) _ (lacks-class code (a .kind));
-        service = flag-joins (kindIs 6) w l a (f .service) (i .service) _ (says-service (a .kind));
-        repeated =
-            joins (found (firstRepeated none w)) (f .repeated) (not (eqb (a .kind) 33) && seenAt count (a .kind)) a (firstRepeated (also (a .kind) (seenAt count)) l) (i .repeated) _ (rw ne)
-            ∙ ap (λ (x : Search). (f .repeated || seenAt count (a .kind)) || found x) (same-seen _ _ l (λ k p. also-counted count (a .kind) k hc));
-        misfit = flag-joins misfitting w l a (f .misfit) (i .misfit) _ (misfit-class (a .kind) (a .size));
-        criterion = flag-joins (among criteria) w l a (f .criterion) (i .criterion) _ (says-criterion (a .kind));
-        change = flag-joins (among changes) w l a (f .change) (i .change) _ (says-change (a .kind));
-        number = λ k p. number-turn w l a k count (i .number k p) hc;
-        end = λ k p. first-turn endOf w l a (a .at + a .size) refl count ends hc he k (i .end k p);
-        size = λ k p. first-turn sizeOf w l a (a .size) refl count sizes hc hs k (i .size k p);
-      }
 
 -- ---- before the first attribute, and behind the last
 

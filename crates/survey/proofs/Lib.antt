@@ -5,5 +5,6 @@ pub mod Marking
 pub mod Repeats
 pub mod Types
 pub mod Held
+pub mod Turning
 pub mod Passes
 pub mod Values

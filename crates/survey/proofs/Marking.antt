@@ -5,14 +5,10 @@ use mathlib.Core.Bool.{Bool, _||_}
 use Prim.Native.Nat.{ℕ}
 use Rattle.survey.specs.declared.Flags.{Flags}
 use Rattle.survey.specs.Classes.{says}
-use Rattle.survey.specs.Turns.{lacking, misfitBy, fitted, marked}
+use Rattle.survey.specs.Turns.{lacking, misfitBy, marked}
 
 pub flagged-says : (a b r : Bool) (w class : ℕ) → b ≡ says w class → r ≡ (a || b) → r ≡ (a || says w class)
 flagged-says a b r w class p q = q ∙ ap (λ (x : Bool). a || x) p
-
-pub fitted-flags : (f : Flags) (class size : ℕ) (b m : Bool) → b ≡ misfitBy class size → m ≡ (f .misfit || b)
-    → record { tiled = f .tiled; unsupported = f .unsupported; service = f .service; repeated = f .repeated; misfit = m; criterion = f .criterion; change = f .change } ≡ fitted class size f
-fitted-flags f class size b m p q = rw (q, p)
 
 pub marked-flags : (f : Flags) (code class size : ℕ) (again b u v r d m c g : Bool) → b ≡ lacking code class → u ≡ (f .unsupported || b) → v ≡ (f .service || says 128 class)
     → r ≡ (f .repeated || again) → d ≡ misfitBy class size → m ≡ (f .misfit || d) → c ≡ (f .criterion || says 16 class) → g ≡ (f .change || says 32 class)

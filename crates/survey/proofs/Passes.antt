@@ -17,9 +17,10 @@ use Rattle.attributes.proofs.Walks.{walk-end, walk-bad, walk-found, tiles-end, 
 use Rattle.survey.specs.declared.Flags.{Flags}
 use Rattle.survey.specs.Classes.{classOf, says}
 use Rattle.survey.specs.Survey.{Surveyed, seenAt}
-use Rattle.survey.specs.Turns.{fitted, marked, cut, countedAt, keptAt}
+use Rattle.survey.specs.Turns.{marked, cut, countedAt, keptAt}
 use Rattle.survey.proofs.Rules.{repeats-33, repeats-not}
-use Rattle.survey.proofs.Held.{Held, turn-33, turn-other, ends-types}
+use Rattle.survey.proofs.Held.{Held, ends-types}
+use Rattle.survey.proofs.Turning.{turn-33, turn-empty, turn-other}
 
 pub end-fits : (s : List ℕ) (at next : ℕ) (a : Attribute) (x : Step) → x ≡ stepAt s at → x ≡ Found a next → length s ≤ 4096 → Fits w16 next
 end-fits s at next a x q r l = let p = found-placed s at next a x q r in record { fits = omega arith }
@@ -30,9 +31,12 @@ module _ (code : ℕ) (s : List ℕ) (w : List Attribute) (at : ℕ) (count ends
     here = subst (λ (l : List Attribute). Held code w l count ends sizes f) (walk-found _ _ _ s at a next (sym q ∙ r)) i
 
     module _ (class : ℕ) (e : class ≡ classOf (a .kind)) (b : Bool) (t : b ≡ says 64 class) where
-      pub held-33 : b ≡ true → (g : Flags) → g ≡ fitted class (a .size) f → Held code w (attributesFrom s next) count ends sizes g
-      held-33 y g d =
-          rw (d, e) (turn-33 code w (attributesFrom s next) a count ends sizes f here (repeats-33 (a .kind) b (t ∙ ap (says 64) e) y))
+      pub held-33 : b ≡ true → (a .size ≡ 2 → ⊥) → Held code w (attributesFrom s next) count ends sizes f
+      held-33 y n = turn-33 code w (attributesFrom s next) a count ends sizes f here (repeats-33 (a .kind) b (t ∙ ap (says 64) e) y) n
+
+      pub held-empty : b ≡ true → (g : Flags) → g ≡ marked code class (a .size) false f → Held code w (attributesFrom s next) count ends sizes g
+      held-empty y g d =
+          rw (d, e) (turn-empty code w (attributesFrom s next) a count ends sizes f here (repeats-33 (a .kind) b (t ∙ ap (says 64) e) y))
 
       pub held-other : b ≡ false → a .kind < 256 → (again : Bool) → again ≡ seenAt count (a .kind)
           → (count′ ends′ sizes′ : List ℕ) → count′ ≡ countedAt count (a .kind) → ends′ ≡ keptAt count ends (a .kind) next → sizes′ ≡ keptAt count sizes (a .kind) (a .size)

@@ -89,3 +89,7 @@ by-code code false e = rw e
 
 pub supported-33 : (code : ℕ) → supported code 33 ≡ true
 supported-33 code = by-code code _ refl
+
+pub fits-33 : (size : ℕ) → (size ≡ 2 → ⊥) → misfitOf 33 size ≡ false
+unfolding misfitOf
+fits-33 size n = ne-eqb size 2 n

@@ -21,11 +21,7 @@ misfitBy class size = (says 4 class && not (eqb size 6)) || (says 8 class && eqb
 abbrev pub unmarked : D.Flags
 unmarked = record { tiled = true; unsupported = false; service = false; repeated = false; misfit = false; criterion = false; change = false }
 
--- with the length of an attribute that may repeat
-abbrev pub fitted : ℕ → ℕ → D.Flags → D.Flags
-fitted class size f = record { tiled = f .tiled; unsupported = f .unsupported; service = f .service; repeated = f .repeated; misfit = f .misfit || misfitBy class size; criterion = f .criterion; change = f .change }
-
--- with all answers on any other attribute, and whether its type was there before
+-- with all answers on an attribute, and whether its type was there before
 abbrev pub marked : ℕ → ℕ → ℕ → Bool → D.Flags → D.Flags
 marked code class size again f =
     record {

@@ -8,7 +8,6 @@ use classes::class_in;
 use classes::says;
 use counts::note;
 use marks::cut;
-use marks::fitted;
 use marks::marked;
 use marks::unmarked;
 
@@ -58,9 +57,12 @@ pub fn survey(
                 let end = next as u16;
                 at = next;
                 let class = class_in(&table, kind);
-                // What may repeat is not counted.
+                // What may repeat is not counted, and breaks no rule but that on length 2.
                 if says(64, class) {
-                    f = fitted(f, class, size);
+                    if size == 2 {
+                        f = marked(f, code, class, size, false);
+                        continue;
+                    }
                     continue;
                 }
                 let again = note(count, ends, sizes, kind, end, size);

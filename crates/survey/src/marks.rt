@@ -3,7 +3,7 @@ ghost use mathlib.Core.Path.{_≡_};
 ghost use mathlib.Core.Bool.{_||_};
 ghost use Prim.Native.Nat.{_<_};
 ghost use Rattle.survey.specs.Classes.{says};
-ghost use Rattle.survey.specs.Turns.{unmarked, fitted, marked, cut};
+ghost use Rattle.survey.specs.Turns.{unmarked, marked, cut};
 use crate::Flags;
 use crate::classes::lacks;
 use crate::classes::misfits;
@@ -42,22 +42,7 @@ pub fn unmarked() -> Flags
     }
 }
 
-// With the length of an attribute that may repeat.
-pub fn fitted(f: Flags, class: u8, size: u8) -> Flags
-    ensures { λ r. ⌜ r ≡ fitted class size f ⌝ }
-{
-    Flags {
-        tiled: f.tiled,
-        unsupported: f.unsupported,
-        service: f.service,
-        repeated: f.repeated,
-        misfit: either(f.misfit, misfits(class, size)),
-        criterion: f.criterion,
-        change: f.change,
-    }
-}
-
-// With all answers on any other one, and whether its type was there before.
+// With all answers on an attribute, and whether its type was there before.
 pub fn marked(f: Flags, code: u8, class: u8, size: u8, again: bool) -> Flags
     ensures { λ r. ⌜ r ≡ marked code class size again f ⌝ }
 {

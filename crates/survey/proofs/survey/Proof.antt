@@ -9,7 +9,7 @@ use Rattle.attributes.proofs.Walks.{advance, tiles-on}
 use Rattle.survey.specs.Types.{supported}
 use Rattle.survey.specs.Classes.{classes, classOf}
 use Rattle.survey.proofs.Held.{Held, starts}
-use Rattle.survey.proofs.Passes.{end-fits, held-33, held-other, survey-end, survey-bad}
+use Rattle.survey.proofs.Passes.{end-fits, held-33, held-empty, held-other, survey-end, survey-bad}
 use Rattle.survey.proofs.survey.Statement.{statement}
 use Rattle.survey.proofs.survey.Tie as tie
 
@@ -35,13 +35,19 @@ loop-less : tie.Need-loop-less Inv-loop μ-loop
 loop-less c = search (needs, advance)
 
 loop-again : tie.Need-loop-again Inv-loop μ-loop
-loop-again c = (search (needs, held-33), (search (needs, tiles-on), search needs))
+loop-again c = (search (needs, held-empty), (search (needs, tiles-on), search needs))
 
 loop-less-2 : tie.Need-loop-less-2 Inv-loop μ-loop
 loop-less-2 c = search (needs, advance)
 
 loop-again-2 : tie.Need-loop-again-2 Inv-loop μ-loop
-loop-again-2 c = (search (needs, held-other), (search (needs, tiles-on), search needs))
+loop-again-2 c = (search (needs, held-33), (search (needs, tiles-on), search needs))
+
+loop-less-3 : tie.Need-loop-less-3 Inv-loop μ-loop
+loop-less-3 c = search (needs, advance)
+
+loop-again-3 : tie.Need-loop-again-3 Inv-loop μ-loop
+loop-again-3 c = (search (needs, held-other), (search (needs, tiles-on), search needs))
 
 returns : tie.Need-returns Inv-loop μ-loop
 returns c = search (needs, survey-end)
@@ -65,10 +71,12 @@ survey-spec =
     (λ c κs. search needs)
     loop-less
     loop-again
-    (λ c κs. search needs)
-    (λ c κs. search needs)
     loop-less-2
     loop-again-2
+    (λ c κs. search needs)
+    (λ c κs. search needs)
+    loop-less-3
+    loop-again-3
     (λ c. search needs)
     returns
     (λ c. search needs)

@@ -1,0 +1,120 @@
+-- Where no cause applies: what a handler may count on. Each fact is one test of the definition that failed, read at an attribute of the area.
+-- Assumes nothing.
+use mathlib.Core.Path.{_≡_, refl, sym, ap, _∙_}
+use mathlib.Core.Bool.{Bool, true, false, cond, not, _&&_, _||_, true≢false, false≢true}
+use mathlib.Core.List.{List, [], _∷_, List·Memᴰ, List·Memᴰ·not-nil, List·Memᴰ·cases-cons}
+use mathlib.Core.Logic.{_⊎_, inl, inr}
+use Prim.Native.Nat.{ℕ, _≤_}
+use lib.Dec.{eqb, ltb}
+use borrow.Author.Tests.{eq-eqb, eqb-true, eqb-false, ltb-false}
+use Rattle.octets.specs.Numbers.{beBytes}
+use Rattle.octets.specs.Runs.{equalBytes}
+use Rattle.octets.proofs.Equality.{equal-true}
+use Rattle.attributes.specs.declared.Attribute.{Attribute}
+use Rattle.attributes.specs.declared.Search.{Search}
+use Rattle.attributes.specs.declared.Search.the-variants.{At}
+use Rattle.attributes.specs.Attributes.{attributes, valueOf, any, found, firstOf, countOf, kindIs}
+use Rattle.attributes.proofs.Stands.{first-member}
+use Rattle.attributes.proofs.Searches.{first-passes}
+use Rattle.survey.specs.Types.{member, supported, unsupportedIn, sixTypes, filledTypes, misfitOf, misfitting, among, criteria, changes, firstRepeated, none}
+use Rattle.survey.proofs.Repeats.{at-most-once}
+use Rattle.causes.specs.declared.Cause.the-variants as C
+use Rattle.causes.specs.Causes.{differing, mismatched, missing, oversized, invalid, causeOf}
+use Rattle.causes.proofs.Firsts.{exactly}
+
+-- ---- where none passes a test, each fails it
+
+or-left : (a b : Bool) → (a || b) ≡ false → a ≡ false
+or-left true b e = e
+or-left false b e = refl
+
+or-right : (a b : Bool) → (a || b) ≡ false → b ≡ false
+or-right true b e = absurd (true≢false e)
+or-right false b e = e
+
+and-first : (a b : Bool) → a ≡ true → (a && b) ≡ false → b ≡ false
+and-first true b h e = e
+and-first false b h e = absurd (false≢true h)
+
+not-true : (b : Bool) → not b ≡ false → b ≡ true
+not-true true e = refl
+not-true false e = absurd (true≢false e)
+
+head : (t : Bool) (b : Attribute) (x : Search) → found (cond t (At b) x) ≡ false → t ≡ false
+head true b x e = e
+head false b x e = refl
+
+tail : (t : Bool) (b : Attribute) (x : Search) → found (cond t (At b) x) ≡ false → found x ≡ false
+tail true b x e = absurd (true≢false e)
+tail false b x e = e
+
+by-head : (p : Attribute → Bool) (a b : Attribute) (l : List Attribute) → any p (b ∷ l) ≡ false → (any p l ≡ false → List·Memᴰ a l → p a ≡ false) → (a ≡ b) ⊎ List·Memᴰ a l → p a ≡ false
+by-head p a b l h ih (inl e) = ap p e ∙ head (p b) b (firstOf p l) h
+by-head p a b l h ih (inr n) = ih (tail (p b) b (firstOf p l) h) n
+
+fails : (p : Attribute → Bool) (l : List Attribute) → any p l ≡ false → (a : Attribute) → List·Memᴰ a l → p a ≡ false
+fails p [] h a m = absurd (List·Memᴰ·not-nil m)
+fails p (b ∷ l) h a m = by-head p a b l h (λ g n. fails p l g a n) (List·Memᴰ·cases-cons m)
+
+-- ---- no cause
+
+module _ (code address : ℕ) (name s : List ℕ) (q : causeOf code address name s ≡ C.NoCause) where
+  repeated : found (firstRepeated none (attributes s)) ≡ false
+  unfolding invalid
+  repeated = or-left _ (any misfitting (attributes s)) (exactly C.NoCause code address name s .0 q .2)
+
+  misfit : any misfitting (attributes s) ≡ false
+  unfolding invalid
+  misfit = or-right (found (firstRepeated none (attributes s))) _ (exactly C.NoCause code address name s .0 q .2)
+
+  -- every type but 33 stands at most once
+  pub once : (k : ℕ) → (k ≡ 33 → ⊥) → countOf (kindIs k) (attributes s) ≤ 1
+  once k ne = at-most-once (attributes s) repeated k ne
+
+  module _ (a : Attribute) (m : List·Memᴰ a (attributes s)) where
+    pub supports : supported code (a .kind) ≡ true
+    supports = not-true _ (fails (unsupportedIn code) (attributes s) (exactly C.NoCause code address name s .0 q .0) a m)
+
+    pub six : member (a .kind) sixTypes ≡ true → a .size ≡ 6
+    unfolding misfitOf
+    six h = eqb-true _ _ (not-true _ (and-first _ _ h (or-left _ (member (a .kind) filledTypes && eqb (a .size) 2) (fails misfitting (attributes s) misfit a m))))
+
+    pub filled : member (a .kind) filledTypes ≡ true → a .size ≡ 2 → ⊥
+    unfolding misfitOf
+    filled h = eqb-false _ _ (and-first _ _ h (or-right (member (a .kind) sixTypes && not (eqb (a .size) 6)) _ (fails misfitting (attributes s) misfit a m)))
+
+    owned : (k : ℕ) (own : List ℕ) → differing s k own a ≡ false → a .kind ≡ k → valueOf s a ≡ own
+    owned k own h e = equal-true _ _ (not-true _ (and-first _ _ (eq-eqb _ _ e) h))
+
+    pub own-address : a .kind ≡ 4 → valueOf s a ≡ beBytes 4 address
+    own-address e = owned 4 (beBytes 4 address) (or-left _ (differing s 32 name a) (fails (mismatched address name s) (attributes s) (exactly C.NoCause code address name s .0 q .3) a m)) e
+
+    pub own-name : a .kind ≡ 32 → valueOf s a ≡ name
+    own-name e =
+        owned 32 name (or-right (differing s 4 (beBytes 4 address) a) _ (fails (mismatched address name s) (attributes s) (exactly C.NoCause code address name s .0 q .3) a m)) e
+
+    pub filter : a .kind ≡ 11 → a .size ≤ 34
+    filter e = ltb-false _ _ (and-first _ _ (eq-eqb _ _ e) (fails oversized (attributes s) (exactly C.NoCause code address name s .0 q .5) a m))
+
+  -- one names a session, and in a CoA-Request one changes one
+  pub criterion : any (among criteria) (attributes s) ≡ true
+  unfolding missing
+  criterion = not-true _ (or-left _ (eqb code 43 && not (any (among changes) (attributes s))) (exactly C.NoCause code address name s .0 q .4))
+
+  pub change : code ≡ 43 → any (among changes) (attributes s) ≡ true
+  unfolding missing
+  change e = not-true _ (and-first _ _ (eq-eqb _ _ e) (or-right (not (any (among criteria) (attributes s))) _ (exactly C.NoCause code address name s .0 q .4)))
+
+  -- the same of the first of a type
+  module _ (k : ℕ) (a : Attribute) (e : firstOf (kindIs k) (attributes s) ≡ At a) where
+    kind : a .kind ≡ k
+    kind = eqb-true _ _ (first-passes (kindIs k) (attributes s) a e)
+
+    pub six-first : member k sixTypes ≡ true → a .size ≡ 6
+    six-first h = six a (first-member (kindIs k) (attributes s) a e) (ap (λ (j : ℕ). member j sixTypes) kind ∙ h)
+
+    pub filled-first : member k filledTypes ≡ true → a .size ≡ 2 → ⊥
+    filled-first h = filled a (first-member (kindIs k) (attributes s) a e) (ap (λ (j : ℕ). member j filledTypes) kind ∙ h)
+
+    pub filter-first : k ≡ 11 → a .size ≤ 34
+    filter-first h = filter a (first-member (kindIs k) (attributes s) a e) (kind ∙ h)
