@@ -1,4 +1,5 @@
 pub mod Write
+pub mod Loops
 pub mod Part
 pub mod Numbers
 pub mod Equality

@@ -4,7 +4,7 @@ use Prim.Native.Nat.{_≤_, _-_}
 use mathlib.Core.Path.{_≡_}
 use borrow.Author.Needs.{needs}
 use lib.ListN.{length, take}
-use Rattle.octets.proofs.Write.{copy-none, copy-part, copy-rest, write-long}
+use Rattle.octets.proofs.Loops.{copy-none, copy-part, copy-rest}
 use Rattle.octets.specs.Runs.{write}
 use Rattle.octets.proofs.copy.Statement.{statement}
 use Rattle.octets.proofs.copy.Tie as tie

@@ -3,7 +3,7 @@
 use lib.ListN.{length-set}
 use borrow.Author.Needs.{needs}
 use native.Mathlib.Omega.{arith}
-use Rattle.octets.proofs.Write.{store-eight}
+use Rattle.octets.proofs.Loops.{store-eight}
 use Rattle.octets.proofs.copy8.Statement.{statement}
 use Rattle.octets.proofs.copy8.Tie as tie
 

@@ -4,7 +4,7 @@ use borrow.Author.Needs.{needs}
 use lib.ListN.{length, take}
 use mathlib.Core.Path.{_≡_}
 use Prim.Native.Nat.{_≤_, _-_}
-use Rattle.octets.proofs.Write.{copy-none, copy-byte, copy-all, write-long}
+use Rattle.octets.proofs.Loops.{copy-none, copy-byte, copy-all}
 use Rattle.octets.specs.Runs.{write}
 use Rattle.octets.proofs.copy_bytes.Statement.{statement}
 use Rattle.octets.proofs.copy_bytes.Tie as tie

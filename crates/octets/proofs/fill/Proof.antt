@@ -5,7 +5,7 @@ use mathlib.Core.Path.{_≡_}
 use Prim.Native.Nat.{_≤_, _-_}
 use lib.ListN.{length, replicate}
 use Rattle.octets.specs.Runs.{write}
-use Rattle.octets.proofs.Write.{fill-none, fill-byte, fill-all}
+use Rattle.octets.proofs.Loops.{fill-none, fill-byte, fill-all}
 use Rattle.octets.proofs.fill.Statement.{statement}
 use Rattle.octets.proofs.fill.Tie as tie
 
