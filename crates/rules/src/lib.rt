@@ -1,5 +1,6 @@
 // The verdict on a request before any session is looked at.
 mod mac; // mac.rt: D5
+mod nak; // nak.rt: causes 1 to 6
 
 ghost use mathlib.Core.Path.{_≡_};
 ghost use mathlib.Core.Bool.{true, _||_};
@@ -10,7 +11,7 @@ ghost use Rattle.survey.specs.Survey.{Surveyed};
 ghost use Rattle.rules.specs.Packet.{codeOf, lengthOf, areaOf};
 ghost use Rattle.rules.specs.Settings.{settings};
 ghost use Rattle.rules.specs.Discards.{formOf, Sized, signedBy};
-ghost use Rattle.rules.specs.Verdict.{nakOr, freshVerdict, checkVerdict, verdictOf};
+ghost use Rattle.rules.specs.Verdict.{checkVerdict, verdictOf};
 
 // Document 01's answers: discarded by a number, no stamp usable; discarded by D6 for a stale stamp; NAK with a cause; passed. The last three tell the skew.
 pub enum Verdict {
@@ -64,42 +65,6 @@ pub fn length_of(p: &[u8]) -> usize
     octets::be16(p, 2) as usize
 }
 
-// A cause is a NAK.
-fn nak_or(cause: causes::Cause, skew: i64) -> Verdict
-    ensures { λ r. ⌜ r ≡ nakOr skew cause ⌝ }
-{
-    match cause {
-        causes::Cause::NoCause => Verdict::Passed(skew),
-        causes::Cause::UnsupportedAttribute => Verdict::Nak(cause, skew),
-        causes::Cause::MissingAttribute => Verdict::Nak(cause, skew),
-        causes::Cause::IdentificationMismatch => Verdict::Nak(cause, skew),
-        causes::Cause::InvalidRequest => Verdict::Nak(cause, skew),
-        causes::Cause::UnsupportedService => Verdict::Nak(cause, skew),
-        causes::Cause::SessionNotFound => Verdict::Nak(cause, skew),
-        causes::Cause::ResourcesUnavailable => Verdict::Nak(cause, skew),
-    }
-}
-
-// Causes 1 to 6 of a fresh request.
-fn fresh(
-    p: &[u8],
-    s: &[u8],
-    address: u32,
-    name: &[u8],
-    skew: i64,
-    f: survey::Flags,
-    count: &[u8; 256],
-    ends: &[u16; 256],
-    sizes: &[u8; 256],
-) -> Verdict
-    requires { ⌜ (0 < length (now p)) × (now s ≡ areaOf (now p)) ⌝ }
-    requires { ⌜ Surveyed (areaOf (now p)) (codeOf (now p)) f (now count) (now ends) (now sizes) ⌝ }
-    ensures { λ r. ⌜ r ≡ freshVerdict address (now (name .entry)) (now (p .entry)) skew ⌝ }
-{
-    let cause = causes::first_cause(s, p[0], address, name, f, count, ends, sizes);
-    nak_or(cause, skew)
-}
-
 // D4 to D6 and causes 1 to 6 of a request that meets none of D1 to D3; signed says that D4 does not apply.
 pub fn check(
     p: &[u8],
@@ -132,7 +97,7 @@ pub fn check(
                 if stamps::stale(v, clock) {
                     return Verdict::Stale(skew);
                 }
-                return fresh(p, s, address, name, skew, f, count, ends, sizes);
+                return nak::fresh(p, s, address, name, skew, f, count, ends, sizes);
             }
         }
     }

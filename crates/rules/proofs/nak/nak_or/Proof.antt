@@ -1,9 +1,9 @@
--- `rules::nak_or` meets its contract, case by case.
+-- `rules::nak::nak_or` meets its contract, case by case.
 -- Assumes nothing.
 use borrow.Author.Needs.{needs}
 use Rattle.rules.proofs.Verdicts.{nak-applies, nak-passes}
-use Rattle.rules.proofs.nak_or.Statement.{statement}
-use Rattle.rules.proofs.nak_or.Tie as tie
+use Rattle.rules.proofs.nak.nak_or.Statement.{statement}
+use Rattle.rules.proofs.nak.nak_or.Tie as tie
 
 returns : tie.Need-returns
 returns c = search (needs, nak-passes)

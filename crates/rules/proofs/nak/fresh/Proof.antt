@@ -1,9 +1,9 @@
--- `rules::fresh` meets its contract: the cause of the area decides.
+-- `rules::nak::fresh` meets its contract: the cause of the area decides.
 -- Assumes nothing.
 use borrow.Author.Needs.{needs}
 use Rattle.rules.proofs.Verdicts.{surveyed-at, fresh-law}
-use Rattle.rules.proofs.fresh.Statement.{statement}
-use Rattle.rules.proofs.fresh.Tie as tie
+use Rattle.rules.proofs.nak.fresh.Statement.{statement}
+use Rattle.rules.proofs.nak.fresh.Tie as tie
 
 first-cause-requires : tie.Need-first-cause-requires
 first-cause-requires c κs = search (needs, surveyed-at)
