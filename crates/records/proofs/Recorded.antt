@@ -1,17 +1,17 @@
 -- A recorded session is live, and each of its eight fields is read back: each piece of the record lies where the field is read.
 -- Assumes nothing.
 use mathlib.Core.Path.{_≡_, refl, sym, ap, _∙_}
-use mathlib.Core.Bool.{Bool, true, false, _&&_}
+use mathlib.Core.Bool.{true, _&&_}
 use mathlib.Core.List.{List, [], _∷_}
-use Prim.Native.Nat.{ℕ, _+_, _^_, _≤_, _<_}
+use Prim.Native.Nat.{ℕ, _+_, _^_, _<_}
 use native.Mathlib.Nat.{add-zero}
 use native.Mathlib.Omega.{arith}
-use lib.ListN.{length, getD, take, replicate, length-replicate}
+use lib.ListN.{length, getD, replicate, length-replicate}
 use Rattle.octets.specs.Numbers.{be, beBytes}
-use Rattle.octets.specs.Runs.{part, write}
+use Rattle.octets.specs.Runs.{part}
 use Rattle.octets.proofs.Numbers.{length-beBytes, be-part, be-written}
 use Rattle.octets.proofs.Write.{write-whole}
-use Rattle.slots.specs.Slot.{live, within, text, nasPort, framedAddress, sessionTimeout, idleTimeout, userName, sessionId, callingStation, filterId}
+use Rattle.slots.specs.Slot.{live, within, nasPort, framedAddress, sessionTimeout, idleTimeout, userName, sessionId, callingStation, filterId}
 use Rattle.slots.proofs.Kept.{and-left, and-right}
 use Rattle.slots.proofs.Live.{within-high}
 use Rattle.records.specs.Record.{textField}

@@ -1,12 +1,12 @@
 -- Texts read back: a text field holds its length, its value and zeros, and what is read of a part is read of the whole.
 -- Assumes nothing.
 use mathlib.Core.Path.{_≡_, refl, sym, ap, _∙_}
-use mathlib.Core.List.{List, [], _∷_, _++_}
+use mathlib.Core.List.{List, [], _∷_}
 use Prim.Native.Nat.{ℕ, zero, suc, _+_, _-_, _≤_, _<_}
 use native.Mathlib.Nat.{add-zero, zero-add, suc-add}
 use native.Mathlib.Omega.{arith}
 use lib.ListN.{length, getD, take, drop, replicate, length-take}
-use lib.Seq.{take-nil, drop-nil, take-all, take-take, take-append-seam, drop-drop}
+use lib.Seq.{take-nil, take-all, take-take, take-append-seam, drop-drop}
 use Rattle.octets.specs.Runs.{part, write}
 use Rattle.octets.proofs.Part.{byte-part, part-written}
 use Rattle.slots.specs.Slot.{text}

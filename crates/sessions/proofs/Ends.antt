@@ -1,13 +1,13 @@
 -- What an end that is not refused says: the slot held a session, its bytes are then zero, and every other slot is as it was.
 -- Assumes nothing.
-use mathlib.Core.Path.{_≡_, refl, sym, ap, _∙_}
+use mathlib.Core.Path.{_≡_, refl}
 use mathlib.Core.Bool.{Bool, true, false, cond, _&&_}
 use mathlib.Core.List.{List}
-use Prim.Native.Nat.{ℕ, _+_, _*_, _≤_, _<_}
+use Prim.Native.Nat.{ℕ, _<_}
 use native.Mathlib.Omega.{arith}
 use borrow.Author.Tests.{ltb-true}
 use lib.Dec.{eqb, ltb}
-use lib.ListN.{length, replicate, length-replicate}
+use lib.ListN.{replicate, length-replicate}
 use Rattle.slots.specs.Slot.{slotCount, slot, live}
 use Rattle.slots.proofs.Count.{slot-fits}
 use Rattle.slots.proofs.Places.{slot-written, slot-written-other}

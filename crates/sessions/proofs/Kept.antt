@@ -1,7 +1,7 @@
 -- What an alteration keeps: bytes 0 to 9, 18 to 147 and 181 to 191 are beside all that it writes. So a live slot stays live, with every field that a criterion can name.
 -- Assumes nothing.
 use mathlib.Core.Path.{_≡_, refl, sym, ap, _∙_}
-use mathlib.Core.Bool.{Bool, true, false, _&&_}
+use mathlib.Core.Bool.{Bool, true}
 use mathlib.Core.List.{List, [], _∷_}
 use mathlib.Core.Logic.{⊎-elim, _⊎_, inl, inr}
 use Prim.Native.Nat.{ℕ, _+_, _≤_, _<_}
@@ -9,7 +9,7 @@ use native.Mathlib.Nat.{add-zero}
 use native.Mathlib.Omega.{arith}
 use lib.ListN.{length, getD, take, length-take}
 use Rattle.octets.specs.Numbers.{beBytes}
-use Rattle.octets.specs.Runs.{part, write, equalBytes}
+use Rattle.octets.specs.Runs.{part, write}
 use Rattle.octets.proofs.Numbers.{length-beBytes}
 use Rattle.octets.proofs.Part.{byte-part, part-before, part-behind}
 use Rattle.records.specs.Record.{textField}

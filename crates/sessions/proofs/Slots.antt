@@ -1,25 +1,20 @@
 -- Changes slot by slot: a change writes its slot alone, so a slot that the walk has not reached is as it was.
 -- Assumes nothing.
-use mathlib.Core.Path.{_≡_, refl, sym, ap, _∙_}
-use mathlib.Core.Bool.{Bool, true, false, _&&_, cond}
+use mathlib.Core.Path.{_≡_, refl, _∙_}
+use mathlib.Core.Bool.{Bool, true, false, cond}
 use mathlib.Core.List.{List}
-use Prim.Native.Nat.{ℕ, zero, suc, _+_, _*_, _≤_, _<_}
-use native.Mathlib.Nat.{le-antisymm}
-use native.Mathlib.Numerals.{add-one}
+use Prim.Native.Nat.{ℕ, zero, suc, _*_, _≤_}
 use native.Mathlib.Omega.{arith}
 use borrow.Author.Tests.{eq-eqb, ne-eqb}
-use lib.Dec.{eqb}
 use lib.ListN.{length, getD, replicate, length-replicate}
 use Rattle.octets.specs.Runs.{write}
 use Rattle.octets.proofs.Write.{length-write}
-use Rattle.slots.specs.Slot.{slotCount, slot, live}
-use Rattle.slots.specs.Marks.{countTo}
-use Rattle.slots.proofs.Count.{Counted}
+use Rattle.slots.specs.Slot.{slot, live}
 use Rattle.slots.proofs.Places.{slot-written-other, slot-short}
 use Rattle.sessions.specs.declared.Alteration.{Alteration}
 use Rattle.sessions.specs.declared.Change.{Change}
 use Rattle.sessions.specs.declared.Change.the-variants.{End, Alter}
-use Rattle.sessions.specs.Change.{altered, changed, changeAt, marked, changeMarked, countMarked}
+use Rattle.sessions.specs.Change.{altered, changed, changeAt, marked, changeMarked}
 use Rattle.sessions.proofs.Alter.{length-altered}
 
 pub length-changed : (p : List ℕ) (c : Change) (s : List ℕ) → length s ≡ 192 → length (changed p c s) ≡ 192

@@ -1,21 +1,19 @@
 -- What a start that is not refused says: the texts keep to their limits, the slot is the lowest free one, and it then holds the record, every other slot as it was.
 -- Assumes nothing.
-use mathlib.Core.Path.{_≡_, refl, sym, ap, _∙_}
+use mathlib.Core.Path.{_≡_, refl, sym, _∙_}
 use mathlib.Core.Bool.{Bool, true, false, not, cond}
 use mathlib.Core.List.{List}
-use Prim.Native.Nat.{ℕ, zero, suc, _+_, _*_, _≤_, _<_}
+use Prim.Native.Nat.{ℕ, _+_, _*_, _≤_}
 use native.Mathlib.Nat.{zero-add}
 use native.Mathlib.Omega.{arith}
 use borrow.Author.Tests.{eqb-false}
 use lib.Dec.{eqb}
 use lib.ListN.{length}
-use Rattle.octets.specs.Runs.{write}
 use Rattle.slots.specs.Slot.{slotCount, slot, live}
 use Rattle.slots.proofs.Places.{slot-written, slot-written-other}
-use Rattle.sessions.specs.declared.Inserted.{Inserted}
 use Rattle.sessions.specs.declared.Inserted.the-variants.{Slot, NotInserted}
 use Rattle.records.specs.Record.{Session, recordOf, fitsRecord}
-use Rattle.sessions.specs.Session.{idLive, freeFrom, lowestFree, insertAnswer, insertTable}
+use Rattle.sessions.specs.Session.{idLive, lowestFree, insertAnswer, insertTable}
 use Rattle.sessions.proofs.Free.{free-fits, found-free}
 use Rattle.records.proofs.Recorded.{recorded-length}
 

@@ -1,12 +1,12 @@
 -- What an alteration writes is read back, all 32 bits of a number; a field that is not named is as it was; an ended slot is free.
 -- Assumes nothing.
-use mathlib.Core.Path.{_≡_, refl, sym, ap, _∙_}
-use mathlib.Core.Bool.{Bool, true, false}
+use mathlib.Core.Path.{_≡_, refl, ap, _∙_}
+use mathlib.Core.Bool.{false}
 use mathlib.Core.List.{List}
 use mathlib.Core.Logic.{⊎-elim, _⊎_, inl, inr}
 use Prim.Native.Nat.{ℕ, _+_, _^_, _≤_, _<_}
 use native.Mathlib.Omega.{arith}
-use lib.ListN.{length, getD, take}
+use lib.ListN.{length, take}
 use Rattle.octets.specs.Numbers.{be, beBytes}
 use Rattle.octets.specs.Runs.{part, write}
 use Rattle.octets.proofs.Numbers.{length-beBytes, be-before, be-behind, be-written}

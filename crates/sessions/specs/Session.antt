@@ -1,12 +1,12 @@
 -- Where a new session goes, what can refuse it, and a session's end (document 01, R1 and R8 to R11).
 -- Assumes nothing.
-use mathlib.Core.Bool.{Bool, true, false, _&&_, _||_, not, cond}
-use mathlib.Core.List.{List, [], _∷_, _++_}
+use mathlib.Core.Bool.{Bool, false, _&&_, _||_, not, cond}
+use mathlib.Core.List.{List}
 use Prim.Native.Nat.{ℕ, zero, suc, _*_}
 use lib.Dec.{eqb, ltb}
-use lib.ListN.{length, replicate}
+use lib.ListN.{replicate}
 use Rattle.octets.specs.Runs.{write, equalBytes}
-use Rattle.slots.specs.Slot.{slotCount, slot, live, within, sessionId}
+use Rattle.slots.specs.Slot.{slotCount, slot, live, sessionId}
 use Rattle.sessions.specs.declared.Inserted.{Inserted}
 use Rattle.sessions.specs.declared.Inserted.the-variants.{Slot, NotInserted}
 use Rattle.sessions.specs.declared.Removed.{Removed}

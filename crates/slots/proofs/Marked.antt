@@ -1,19 +1,17 @@
 -- Marks and counts, read: a mark is 1 exactly at the slots below k that f names, and a count goes by f below k alone.
 -- Assumes nothing.
-use mathlib.Core.Path.{_≡_, refl, sym, ap, _∙_}
-use mathlib.Core.Bool.{Bool, true, false, _&&_, cond, and-false}
+use mathlib.Core.Path.{_≡_, refl, _∙_}
+use mathlib.Core.Bool.{Bool, true, false, cond}
 use mathlib.Core.List.{List}
 use mathlib.Core.Logic.{⊎-elim}
 use Prim.Native.Nat.{ℕ, zero, suc, _+_, _≤_, _<_}
 use native.Mathlib.Nat.{eq-or-lt-of-le, le-of-suc-le-suc}
 use native.Mathlib.Omega.{arith}
-use borrow.Author.Tests.{lt-ltb, le-ltb, eqb-true, eq-eqb}
-use lib.Dec.{ltb, eqb}
-use lib.ListN.{length, getD, set, replicate, length-set, length-replicate}
+use lib.ListN.{length, getD, set, replicate, length-set}
 use lib.Seq.{getD-set-same, getD-set-other}
 use Rattle.octets.proofs.Equality.{and-both}
 use Rattle.slots.specs.declared.Criterion.{Criterion}
-use Rattle.slots.specs.Slot.{slotCount, slot, live}
+use Rattle.slots.specs.Slot.{slotCount, live}
 use Rattle.slots.specs.Matching.{matches, matchesAt}
 use Rattle.slots.specs.Marks.{noMarks, marksAfter, countTo}
 use Rattle.slots.proofs.Count.{counted}

@@ -1,14 +1,13 @@
 -- The marks of a walk over the slots, and the count of those that are named: one slot more adds at most its own.
 -- Assumes nothing.
-use mathlib.Core.Path.{_≡_, refl, sym, ap, _∙_}
-use mathlib.Core.Bool.{Bool, true, false, cond}
+use mathlib.Core.Path.{_≡_, refl, ap, _∙_}
+use mathlib.Core.Bool.{Bool, true, false}
 use mathlib.Core.List.{List}
-use Prim.Native.Nat.{ℕ, zero, suc, _+_, _≤_, _<_}
+use Prim.Native.Nat.{ℕ, _+_, _≤_}
 use native.Mathlib.Nat.{le-antisymm}
 use native.Mathlib.Numerals.{add-one}
-use native.Mathlib.Omega.{arith}
-use lib.ListN.{length, getD, set, replicate, length-set, length-replicate}
-use Rattle.slots.specs.Marks.{noMarks, marksAfter, countTo}
+use lib.ListN.{set, replicate}
+use Rattle.slots.specs.Marks.{noMarks, marksAfter}
 
 -- ---- the walk: m is the marks after the first k slots
 

@@ -2,11 +2,11 @@
 -- A write is a run of single stores, so each law goes by induction on the stores.
 -- Assumes nothing.
 use mathlib.Core.Path.{_≡_, refl, sym, ap, _∙_}
-use mathlib.Core.List.{List, [], _∷_, _++_}
+use mathlib.Core.List.{List, [], _∷_}
 use Prim.Native.Nat.{ℕ, zero, suc, _+_, _≤_, _<_}
 use native.Mathlib.Nat.{add-zero, add-suc, suc-add}
 use native.Mathlib.Omega.{arith}
-use lib.ListN.{length, set, take, drop, length-set, length-take, take-append-drop}
+use lib.ListN.{length, set, length-set, take-append-drop}
 use lib.Seq.{sets, set-set, set-comm, take-add}
 use Rattle.octets.specs.Runs.{part, write}
 use Rattle.octets.proofs.Part.{length-part}

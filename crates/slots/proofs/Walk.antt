@@ -1,14 +1,14 @@
 -- The walk over the criteria of a request: those that are left decide the answer, and one that fails decides at once.
 -- Assumes nothing.
-use mathlib.Core.Path.{_≡_, refl, sym, ap, _∙_}
+use mathlib.Core.Path.{_≡_, refl, sym, _∙_}
 use mathlib.Core.Bool.{Bool, true, false, not, _&&_, and-false}
 use mathlib.Core.List.{List, [], _∷_, map}
 use Prim.Native.Nat.{ℕ, zero, suc, _+_, _≤_, _<_}
 use native.Mathlib.Numerals.{add-one}
 use native.Mathlib.Omega.{arith}
 use lib.Dec.{eqb}
-use lib.ListN.{length, getD, take, drop, length-map, length-take, drop-of-length-le}
-use lib.Seq.{drop-cons, getD-take, length-take-le, take-all}
+use lib.ListN.{length, getD, drop, length-map, length-take, drop-of-length-le}
+use lib.Seq.{drop-cons, getD-take}
 use Rattle.octets.proofs.Equality.{and-both}
 use Rattle.slots.specs.declared.Criteria.{Criteria}
 use Rattle.slots.specs.declared.Criterion.{Criterion}

@@ -1,7 +1,7 @@
 -- `slots::compare::all_inside` meets its contract: the criteria that are left decide.
 -- Assumes nothing.
 use Prim.Native.Nat.{_≤_, _-_}
-use mathlib.Core.Path.{_≡_, refl}
+use mathlib.Core.Path.{_≡_}
 use lib.ListN.{drop}
 use Rattle.slots.specs.Matching.{inside, all, listed}
 use Rattle.slots.proofs.Walk.{inside-fails, inside-next, inside-ends}
