@@ -1,7 +1,7 @@
 // What the exports take as bytes and numbers, as the values of the table's crates.
 ghost use mathlib.Core.Path.{_≡_};
 ghost use Prim.Native.Nat.{_<_};
-ghost use lib.ListN.{length, getD};
+ghost use lib.ListN.{getD};
 ghost use Rattle.probe_table.specs.Given.{fieldOf, criterionAt, criteriaOf, numberOf, textOf, changeOf};
 
 // A byte as a number of the machine's width.

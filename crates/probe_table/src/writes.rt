@@ -23,7 +23,7 @@ fn change_all(t: &mut [u8], p: &[u8], marks: &[u8], c: sessions::Change) -> u32
 
 // Ends or alters every slot that is marked and live; refused where there are not 64 marks.
 #[no_mangle]
-pub extern "C" fn probe_change(
+pub extern "C" fn probe_table_change(
     t: &mut [u8],
     p: &[u8],
     marks: &[u8],
@@ -51,7 +51,7 @@ pub extern "C" fn probe_change(
 
 // Records a session: 0 and its slot, or the refusal number.
 #[no_mangle]
-pub extern "C" fn probe_insert(
+pub extern "C" fn probe_table_insert(
     t: &mut [u8],
     port: u32,
     address: u32,
@@ -79,7 +79,7 @@ pub extern "C" fn probe_insert(
 
 // Ends the session of slot k: 0, or the refusal number.
 #[no_mangle]
-pub extern "C" fn probe_remove(t: &mut [u8], k: usize) -> u32
+pub extern "C" fn probe_table_remove(t: &mut [u8], k: usize) -> u32
     ensures { λ r. ⌜ r ≡ removeNumber (removeAnswer k (now (t .entry))) ⌝ }
     ensures { λ _. ⌜ now (t .exit) ≡ removeTable k (now (t .entry)) ⌝ }
 {

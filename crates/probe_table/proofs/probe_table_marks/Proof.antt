@@ -1,10 +1,10 @@
--- `probe_table::probe_marks` meets its contract: refused where there is no room, else the marks stand in the whole of it.
+-- `probe_table::probe_table_marks` meets its contract: refused where there is no room, else the marks stand in the whole of it.
 -- Assumes nothing.
 use borrow.Author.Needs.{needs}
 use Rattle.probe_table.proofs.Answers.{refused, keeps, done, writes}
 use Rattle.probe_table.proofs.Handed.{marks-given}
-use Rattle.probe_table.proofs.probe_marks.Statement.{statement}
-use Rattle.probe_table.proofs.probe_marks.Tie as tie
+use Rattle.probe_table.proofs.probe_table_marks.Statement.{statement}
+use Rattle.probe_table.proofs.probe_table_marks.Tie as tie
 
 returns : tie.Need-returns
 returns c = (search (needs, refused), search (needs, keeps))
@@ -12,8 +12,8 @@ returns c = (search (needs, refused), search (needs, keeps))
 returns-2 : tie.Need-returns-2
 returns-2 c = (search (needs, done), search (needs, writes, marks-given))
 
-pub probe-marks-spec : {M : Type 1} → statement M
-probe-marks-spec =
+pub probe-table-marks-spec : {M : Type 1} → statement M
+probe-table-marks-spec =
     tie.close
     (tie.spec
     returns

@@ -1,10 +1,10 @@
--- `probe_table::writes::probe_change` meets its contract: refused where there are not 64 marks.
+-- `probe_table::writes::probe_table_change` meets its contract: refused where there are not 64 marks.
 -- Assumes nothing.
 use borrow.Author.Needs.{needs}
 use Rattle.probe_table.proofs.Answers.{refused, keeps, done, writes}
 use Rattle.probe_table.proofs.Handed.{change-given}
-use Rattle.probe_table.proofs.writes.probe_change.Statement.{statement}
-use Rattle.probe_table.proofs.writes.probe_change.Tie as tie
+use Rattle.probe_table.proofs.writes.probe_table_change.Statement.{statement}
+use Rattle.probe_table.proofs.writes.probe_table_change.Tie as tie
 
 returns : tie.Need-returns
 returns c = (search (needs, refused), (search (needs, keeps), search (needs, keeps)))
@@ -12,8 +12,8 @@ returns c = (search (needs, refused), (search (needs, keeps), search (needs, kee
 returns-2 : tie.Need-returns-2
 returns-2 c = (search (needs, done), (search (needs, writes, change-given), search (needs, writes)))
 
-pub probe-change-spec : {M : Type 1} → statement M
-probe-change-spec =
+pub probe-table-change-spec : {M : Type 1} → statement M
+probe-table-change-spec =
     tie.close
     (tie.spec
     returns
