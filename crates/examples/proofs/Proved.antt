@@ -57,5 +57,5 @@ marked g signed p clock =
       far = λ stamp. rw (later-stale stamp 301, later-skew stamp 300);
       farthest = refl;
       number = refl;
-      no-name = λ slot h. rw (h, and-false, and-false)
+      no-name = λ slot h. rw (h, and-false, and-false);
     }

@@ -2,7 +2,7 @@
 -- Assumes nothing.
 use mathlib.Core.Path.{_≡_, sym, ap, _∙_}
 use mathlib.Core.List.{List}
-use Prim.Native.Nat.{ℕ, suc, _+_, _≤_}
+use Prim.Native.Nat.{ℕ, suc, _+_, _<_, _≤_}
 use native.Mathlib.Numerals.{add-one}
 use native.Mathlib.Omega.{arith}
 use lib.ListN.{length}
@@ -18,6 +18,9 @@ module _ (p : List ℕ) (n : ℕ) (secret : List ℕ) where
 
   pub words-more : (q r : State) (k : ℕ) → q ≡ hashedTo k p n secret → r ≡ hashed q k p n secret → r ≡ hashedTo (k + 1) p n secret
   words-more q r k e g = rw (add-one, blocks-more k p n secret, ← e) g
+
+  pub block-in : (k e : ℕ) → e ≡ blockCount (n + length secret) → k < e → k < blockCount (n + length secret)
+  block-in k e g h = omega arith
 
   pub words-all : (q : State) (k e : ℕ) (d : List ℕ) → q ≡ hashedTo k p n secret → e ≡ blockCount (n + length secret) → k ≤ e → e ≤ k → d ≡ output q
       → 20 ≤ n → n ≤ length p → d ≡ authenticator zeros p n secret

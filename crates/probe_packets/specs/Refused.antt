@@ -13,8 +13,8 @@ authOk n p auth out = digestRoom out && (digestRoom auth && (leb 20 n && leb n (
 
 -- a Message-Authenticator: its value at place at, behind the packet's head and within Length
 abbrev pub macOk : ℕ → ℕ → List ℕ → List ℕ → List ℕ → Bool
-macOk n at p auth out = digestRoom out && (digestRoom auth && (leb (at + 16) n && (leb 20 at && leb n (length p))))
+macOk n at p auth out = digestRoom out && (digestRoom auth && (leb 20 at && (leb (at + 16) n && leb n (length p))))
 
 -- block by block: Length at most 4,096 and a secret of at most 64 bytes
 abbrev pub blocksOk : ℕ → List ℕ → List ℕ → List ℕ → Bool
-blocksOk n p secret out = digestRoom out && (leb (length secret) 64 && (leb n 4096 && (leb 20 n && leb n (length p))))
+blocksOk n p secret out = digestRoom out && (leb 20 n && (leb n 4096 && (leb n (length p) && leb (length secret) 64)))

@@ -2,37 +2,21 @@
 mod verdict; // verdict.rt: the verdict on a request, in numbers
 
 ghost use mathlib.Core.Path.{_≡_};
-ghost use mathlib.Core.Bool.{_&&_};
-ghost use Prim.Native.Nat.{_+_, _≤_};
-ghost use lib.Dec.{leb};
+ghost use Prim.Native.Nat.{_≤_};
 ghost use lib.ListN.{length};
 ghost use Rattle.signing.specs.Signing.{zeros, authenticator, messageAuthenticator};
 ghost use Rattle.probe.specs.Probe.{answer, written};
 ghost use Rattle.probe_packets.specs.Refused.{authOk, macOk, blocksOk};
 
-// Whether a number lies between two others.
-fn between(low: usize, n: usize, high: usize) -> bool
-    ensures { λ r. ⌜ r ≡ leb low n && leb n high ⌝ }
-{
-    if n < low {
-        return false;
-    }
-    n <= high
-}
-
-// Whether 16 bytes from place at on lie in n bytes.
-fn holds16(n: usize, at: usize) -> bool
-    ensures { λ r. ⌜ r ≡ leb (at + 16) n ⌝ }
-{
-    if n < 16 {
-        return false;
-    }
-    at <= n - 16
-}
-
 // The authenticator of a packet of Length n: auth is zeros for a request.
 #[no_mangle]
-pub extern "C" fn probe_authenticator(p: &[u8], n: usize, auth: &[u8], secret: &[u8], out: &mut [u8]) -> u32
+pub extern "C" fn probe_authenticator(
+    p: &[u8],
+    n: usize,
+    auth: &[u8],
+    secret: &[u8],
+    out: &mut [u8],
+) -> u32
     ensures { λ r. ⌜ r ≡ answer (authOk n (now (p .entry)) (now (auth .entry)) (now (out .entry))) ⌝ }
     ensures { λ r. ⌜ now (out .exit) ≡ written (authOk n (now (p .entry)) (now (auth .entry)) (now (out .entry))) (authenticator (now (auth .entry)) (now (p .entry)) n (now (secret .entry))) (now (out .entry)) ⌝ }
 {
@@ -42,17 +26,27 @@ pub extern "C" fn probe_authenticator(p: &[u8], n: usize, auth: &[u8], secret: &
     if auth.len() != 16 {
         return 1;
     }
-    if between(20, n, p.len()) {
-        let d = signing::authenticator(p, n, auth, secret);
-        octets::copy(out, 0, &d);
-        return 0;
+    if n < 20 {
+        return 1;
     }
-    1
+    if p.len() < n {
+        return 1;
+    }
+    let d = signing::authenticator(p, n, auth, secret);
+    octets::copy(out, 0, &d);
+    0
 }
 
 // The Message-Authenticator whose value stands at place at.
 #[no_mangle]
-pub extern "C" fn probe_mac(p: &[u8], n: usize, auth: &[u8], at: usize, secret: &[u8], out: &mut [u8]) -> u32
+pub extern "C" fn probe_mac(
+    p: &[u8],
+    n: usize,
+    auth: &[u8],
+    at: usize,
+    secret: &[u8],
+    out: &mut [u8],
+) -> u32
     ensures { λ r. ⌜ r ≡ answer (macOk n at (now (p .entry)) (now (auth .entry)) (now (out .entry))) ⌝ }
     ensures { λ r. ⌜ now (out .exit) ≡ written (macOk n at (now (p .entry)) (now (auth .entry)) (now (out .entry))) (messageAuthenticator (now (auth .entry)) (now (p .entry)) n at (now (secret .entry))) (now (out .entry)) ⌝ }
 {
@@ -62,18 +56,21 @@ pub extern "C" fn probe_mac(p: &[u8], n: usize, auth: &[u8], at: usize, secret: 
     if auth.len() != 16 {
         return 1;
     }
-    if holds16(n, at) {
-        if at < 20 {
-            return 1;
-        }
-        if p.len() < n {
-            return 1;
-        }
-        let d = signing::message_authenticator(p, n, auth, at, secret);
-        octets::copy(out, 0, &d);
-        return 0;
+    if at < 20 {
+        return 1;
     }
-    1
+    if n < 16 {
+        return 1;
+    }
+    if n - 16 < at {
+        return 1;
+    }
+    if p.len() < n {
+        return 1;
+    }
+    let d = signing::message_authenticator(p, n, auth, at, secret);
+    octets::copy(out, 0, &d);
+    0
 }
 
 // The authenticator of a request from the words after each of its blocks.
@@ -100,16 +97,19 @@ pub extern "C" fn probe_blocks(p: &[u8], n: usize, secret: &[u8], out: &mut [u8]
     if out.len() != 16 {
         return 1;
     }
-    if 64 < secret.len() {
+    if n < 20 {
         return 1;
     }
     if 4096 < n {
         return 1;
     }
-    if between(20, n, p.len()) {
-        let d = by_blocks(p, n, secret);
-        octets::copy(out, 0, &d);
-        return 0;
+    if p.len() < n {
+        return 1;
     }
-    1
+    if 64 < secret.len() {
+        return 1;
+    }
+    let d = by_blocks(p, n, secret);
+    octets::copy(out, 0, &d);
+    0
 }
