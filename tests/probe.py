@@ -19,25 +19,35 @@ SIGNATURES = {
     "put": BYTES + SIZE + U32 + U32,
     "copy": BYTES + SIZE + BYTES,
     "fill": BYTES + SIZE + SIZE + U8,
+    "authenticator": BYTES + SIZE + BYTES + BYTES + BYTES,
+    "mac": BYTES + SIZE + BYTES + SIZE + BYTES + BYTES,
+    "blocks": BYTES + SIZE + BYTES + BYTES,
+    "verdict": BYTES + BYTES + U32 + BYTES + U32 + POINTER + POINTER,
 }
 
 NULL = None  # a run of no bytes that lies nowhere
 
 
 class Cell(bytes):
-    """A uint32_t that C writes to: a pointer with no length."""
+    """A number that C writes to: a pointer with no length."""
 
 
 def cell(value):
+    """A uint32_t."""
     return Cell(value.to_bytes(4, sys.byteorder))
 
 
+def cell64(value):
+    """An int64_t."""
+    return Cell(value.to_bytes(8, sys.byteorder, signed=True))
+
+
 class Probe:
-    def __init__(self, path):
-        library = ctypes.CDLL(path)
+    def __init__(self, paths):
+        libraries = [ctypes.CDLL(path) for path in paths]
         self.functions = {}
         for name, words in SIGNATURES.items():
-            function = library["probe_" + name]
+            function = next(library["probe_" + name] for library in libraries if hasattr(library, "probe_" + name))
             function.argtypes, function.restype = words, ctypes.c_uint32
             self.functions[name] = function
         self.rooms = [Room() for _ in range(max(map(len, SIGNATURES.values())))]

@@ -1,23 +1,31 @@
-"""The tests outside the prover: python3 tests/run.py LIBRARY.so. Its last line is the count."""
+"""The tests outside the prover: python3 tests/run.py LIBRARY.so.. Its last line is the count."""
 import faulthandler
 import sys
 import traceback
 
+import cause_cases
+import discard_cases
 import equal_cases
 import hmac_cases
 import md5_cases
 import number_cases
+import random_cases
 import refusal_cases
+import signature_cases
+import stamp_cases
 import write_cases
 from probe import Probe
 from tally import Tally
 
-MODULES = [md5_cases, hmac_cases, refusal_cases, equal_cases, number_cases, write_cases]
+MODULES = [
+    md5_cases, hmac_cases, refusal_cases, equal_cases, number_cases, write_cases,
+    signature_cases, discard_cases, stamp_cases, cause_cases, random_cases,
+]
 
 
 def main():
     faulthandler.enable()  # a byte touched behind a fence ends the process: say in which test
-    probe = Probe(sys.argv[1])
+    probe = Probe(sys.argv[1:])
     passed = failed = 0
     for title, group in [pair for module in MODULES for pair in module.GROUPS]:
         tally = Tally()

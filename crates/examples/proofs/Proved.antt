@@ -1,0 +1,61 @@
+-- The marked examples hold: each is worked out from the definitions, D1 to D3 in their order.
+-- Assumes nothing.
+use mathlib.Core.Bool.{Bool, true, false, cond, _||_, _&&_, or-true, and-false}
+use mathlib.Core.List.{List, [], _∷_}
+use mathlib.Core.Path.{_≡_, refl, sym, ap, _∙_}
+use Prim.Native.Nat.{ℕ, suc, _+_, _-_, _≤_, _<_}
+use native.Mathlib.Omega.{arith}
+use borrow.Author.Tests.{lt-ltb, le-ltb}
+use lib.Dec.{ltb}
+use lib.IntN.{ℤ, pos, negsuc, subℕ}
+use lib.ListN.{length, getD}
+use Rattle.octets.specs.Numbers.{be}
+use Rattle.attributes.specs.Attributes.{stepAt, walkFrom, tiled}
+use Rattle.signing.specs.Block.{blockCount}
+use Rattle.slots.specs.Slot.{live, within}
+use Rattle.stamps.specs.Stamp.{stale, skewOf}
+use Rattle.rules.specs.Packet.{codeOf, lengthOf, areaOf}
+use Rattle.rules.specs.Settings.{Settings}
+use Rattle.rules.specs.Discards.{badLength, badCode, badAttributes, formOf}
+use Rattle.rules.specs.Verdict.{verdictOf}
+use Rattle.examples.specs.Marked.{Marked}
+
+-- D1 by each of two of its parts
+few : (p : List ℕ) → length p ≡ 19 → badLength p ≡ true
+unfolding badLength
+few p h = rw h
+
+low : (p : List ℕ) → lengthOf p ≡ 19 → badLength p ≡ true
+unfolding badLength
+low p h = rw (h, or-true)
+
+sound : (p : List ℕ) → 20 ≤ length p → lengthOf p ≡ 20 → badLength p ≡ false
+unfolding badLength
+sound p h e = rw (e, le-ltb (length p) 20 h)
+
+-- a clock later than the stamp by a fixed time
+later-skew : (stamp d : ℕ) → subℕ stamp (stamp + suc d) ≡ negsuc d
+later-skew stamp d = rw (lt-ltb stamp (stamp + suc d) (omega arith)) (ap negsuc (omega arith))
+
+later-stale : (stamp d : ℕ) → stale stamp (stamp + d) ≡ ltb 300 d
+unfolding stale
+later-stale stamp d = let e : (stamp - (stamp + d)) + (stamp + d - stamp) ≡ d = omega arith in ap (ltb 300) e
+
+pub marked : (g : Settings) (signed : Bool) (p : List ℕ) (clock : ℕ) → Marked g signed p clock
+unfolding verdictOf formOf badCode badAttributes be stepAt walkFrom blockCount live within stale skewOf
+marked g signed p clock =
+    record {
+      few-bytes = λ h. rw (few p h);
+      low-length = λ h. rw (low p h);
+      other-code = λ h c e. rw (sound p h e, c);
+      length-one = λ h c e. rw (h, c, e);
+      no-attributes = refl;
+      one-block = refl;
+      two-blocks = refl;
+      most-blocks = refl;
+      near = λ stamp. rw (later-stale stamp 300, later-skew stamp 299);
+      far = λ stamp. rw (later-stale stamp 301, later-skew stamp 300);
+      farthest = refl;
+      number = refl;
+      no-name = λ slot h. rw (h, and-false, and-false);
+    }

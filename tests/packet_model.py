@@ -1,0 +1,102 @@
+"""The packet in Python, from document 01's words alone: signatures, silent discards, NAK causes 1 to 6."""
+import hashlib
+import hmac
+from typing import NamedTuple
+
+ZEROS = bytes(16)
+CRITERIA = {1, 5, 8, 31, 44}
+CHANGES = {11, 27, 28}
+SUPPORTED = {43: {1, 4, 5, 6, 8, 11, 24, 27, 28, 31, 32, 33, 44, 55, 80}}
+SUPPORTED[40] = SUPPORTED[43] - CHANGES
+OF_LENGTH_6 = {4, 5, 8, 27, 28}
+NOT_EMPTY = {1, 11, 24, 31, 32, 33, 44}
+
+
+class Gate(NamedTuple):
+    secret: bytes
+    address: int
+    name: bytes
+
+
+class Attribute(NamedTuple):
+    kind: int
+    value: bytes
+    place: int  # of the value, in the packet
+
+
+def with_auth(p, n, auth):
+    return p[:4] + auth + p[20:n]
+
+
+def authenticator(p, n, auth, secret):
+    return hashlib.md5(with_auth(p, n, auth) + secret).digest()
+
+
+def message_authenticator(p, n, auth, at, secret):
+    m = with_auth(p, n, auth)
+    return hmac.digest(secret, m[:at] + ZEROS + m[at + 16:], "md5")
+
+
+def attributes(p, n):
+    """Those of a packet of Length n; None where they do not fill Length, or one has length 0 or 1."""
+    found, at = [], 20
+    while at < n:
+        if at + 1 == n or p[at + 1] < 2 or at + p[at + 1] > n:
+            return None
+        found.append(Attribute(p[at], p[at + 2:at + p[at + 1]], at + 2))
+        at += p[at + 1]
+    return found
+
+
+def bad_form(p):
+    """D1, D2 or D3; 0 where none applies."""
+    n = int.from_bytes(p[2:4], "big")
+    if len(p) < 20 or n < 20 or n > 4096 or n > len(p):
+        return 1
+    if p[0] not in SUPPORTED:
+        return 2
+    return 3 if attributes(p, n) is None else 0
+
+
+def bad_mac(p, n, secret):
+    macs = [a for a in attributes(p, n) if a.kind == 80]
+    if len(macs) > 1:
+        return True
+    return any(a.value != message_authenticator(p, n, ZEROS, a.place, secret) for a in macs)
+
+
+def cause(code, found, gate):
+    """1 to 6, first that applies; 0 where none does."""
+    kinds = [a.kind for a in found]
+    if set(kinds) - SUPPORTED[code]:
+        return 401
+    if 6 in kinds:
+        return 405
+    if any(kind != 33 and kinds.count(kind) > 1 for kind in kinds):
+        return 404
+    if any(a.kind in OF_LENGTH_6 and len(a.value) != 4 or a.kind in NOT_EMPTY and not a.value for a in found):
+        return 404
+    own = {4: gate.address.to_bytes(4, "big"), 32: gate.name}
+    if any(a.kind in own and a.value != own[a.kind] for a in found):
+        return 403
+    if CRITERIA.isdisjoint(kinds) or code == 43 and CHANGES.isdisjoint(kinds):
+        return 402
+    return 506 if any(a.kind == 11 and len(a.value) > 32 for a in found) else 0
+
+
+def verdict(p, gate, clock):
+    """0 passed, 100 + n discarded by Dn, else the cause; and the skew, None where no stamp is usable."""
+    form = bad_form(p)
+    if form:
+        return 100 + form, None
+    n = int.from_bytes(p[2:4], "big")
+    if p[4:20] != authenticator(p, n, ZEROS, gate.secret):
+        return 104, None
+    if bad_mac(p, n, gate.secret):
+        return 105, None
+    found = attributes(p, n)
+    stamps = [a.value for a in found if a.kind == 55]
+    if len(stamps) != 1 or len(stamps[0]) != 4:
+        return 106, None
+    skew = int.from_bytes(stamps[0], "big") - clock
+    return 106 if abs(skew) > 300 else cause(p[0], found, gate), skew

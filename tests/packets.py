@@ -1,0 +1,71 @@
+"""Requests to test with, and how the proved verdict is held beside the model."""
+import packet_model
+from packet_model import Gate
+from probe import cell, cell64
+
+GATE = Gate(b"xyzzy5461", 0xC0000207, b"gate-7")
+CLOCK = 1_700_000_000
+DISCONNECT, COA = 40, 43
+CODES = [DISCONNECT, COA]
+
+
+def attribute(kind, value):
+    return bytes([kind, len(value) + 2]) + value
+
+
+def stamp(time):
+    return attribute(55, time.to_bytes(4, "big"))
+
+
+STAMP = stamp(CLOCK)
+USER = attribute(1, b"ann")
+TIMEOUT = attribute(27, (3600).to_bytes(4, "big"))
+MAC = attribute(80, bytes(16))  # where it stands in a list, `request` puts the right value
+
+
+def unsigned(code, parts, length=None):
+    """Packet of these attributes, its authenticator zeros."""
+    area = b"".join(parts)
+    return bytes([code, 7]) + (20 + len(area) if length is None else length).to_bytes(2, "big") + bytes(16) + area
+
+
+def sign(p, secret=GATE.secret):
+    """The packet up to its Length with the right authenticator; what is behind Length stays."""
+    n = int.from_bytes(p[2:4], "big")
+    return p[:4] + packet_model.authenticator(p, n, bytes(16), secret) + p[20:]
+
+
+def put_macs(p, parts, secret=GATE.secret):
+    """The packet with the right value in each MAC among the parts."""
+    at = 20
+    for part in parts:
+        if part is MAC:
+            p = p[:at + 2] + packet_model.message_authenticator(p, len(p), bytes(16), at + 2, secret) + p[at + 18:]
+        at += len(part)
+    return p
+
+
+def request(code, parts, gate=GATE):
+    """Rightly signed."""
+    return sign(put_macs(unsigned(code, parts), parts, gate.secret), gate.secret)
+
+
+def good(code):
+    """Attributes of a request that passes."""
+    return [USER, STAMP] if code == DISCONNECT else [USER, TIMEOUT, STAMP]
+
+
+def flipped(p, bit):
+    return p[:bit // 8] + bytes([p[bit // 8] ^ 1 << bit % 8]) + p[bit // 8 + 1:]
+
+
+def judged(probe, tally, p, *case, number=None, gate=GATE, clock=CLOCK):
+    """One test: the proved verdict is the model's, nothing lent but the two answers is written, and both say `number`, where it is given."""
+    told, skew = packet_model.verdict(p, gate, clock)
+    if number is not None and told != number:
+        tally.same(told, number, "the model", *case)
+        return told
+    wanted = (told, p, gate.secret, gate.name, cell64(skew or 0), cell(0 if skew is None else 1))
+    before = cell64(-0x1122334455667788), cell(0xEEEEEEEE)
+    tally.same(probe("verdict", p, gate.secret, gate.address, gate.name, clock, *before), wanted, *case)
+    return told
