@@ -6,12 +6,12 @@ use Prim.Native.Nat.{ℕ, zero, suc, _+_, _-_, _*_, _/_, _%_, _^_, _<_, _≤_}
 use native.Mathlib.Nat.{pow-suc, one-le-pow}
 use native.Mathlib.Omega.{arith}
 use lib.Arith.{mod-mul}
-use lib.ListN.{length, take, drop, replicate, length-replicate, replicate-append-replicate}
+use lib.ListN.{length, take, replicate, length-replicate, replicate-append-replicate}
 use lib.Seq.{drop-at}
 use Rattle.octets.specs.Runs.{write}
 use Rattle.octets.proofs.Write.{length-write, write-then, write-end, write-whole}
 use Rattle.md5.specs.declared.State.{State}
-use Rattle.md5.specs.Md5.{after, initial, leBytes, padding, pad, output, md5}
+use Rattle.md5.specs.Md5.{after, leBytes, padding, output, md5}
 use Rattle.md5.proofs.After.{after-add, after-append, block-count, length-padding}
 use Rattle.digest.specs.Held.{Held}
 use Rattle.digest.proofs.Pieces.{more-words}

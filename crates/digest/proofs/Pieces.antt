@@ -2,12 +2,12 @@
 -- what fills a block is hashed, and what is left stands at the start of the buffer.
 -- Assumes nothing.
 use mathlib.Core.Path.{_≡_, refl, sym, ap, _∙_}
-use mathlib.Core.List.{List, [], _∷_, _++_, append-assoc}
-use Prim.Native.Nat.{ℕ, zero, suc, _+_, _-_, _*_, _/_, _%_, _<_, _≤_}
+use mathlib.Core.List.{List, [], _++_, append-assoc}
+use Prim.Native.Nat.{ℕ, _+_, _-_, _*_, _/_, _%_, _<_, _≤_}
 use native.Mathlib.Nat.{zero-add}
 use native.Mathlib.Omega.{arith}
 use lib.ListN.{length, take, drop, length-append, length-drop, take-append-drop, drop-of-length-le}
-use lib.Seq.{take-all, length-take-le, drop-append-le, drop-append-add, drop-at}
+use lib.Seq.{take-all, length-take-le, drop-append-le, drop-append-add}
 use Rattle.octets.specs.Runs.{write}
 use Rattle.octets.proofs.Write.{length-write, take-write}
 use Rattle.md5.specs.declared.State.{State}

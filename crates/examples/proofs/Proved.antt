@@ -1,20 +1,20 @@
 -- The marked examples hold: each is worked out from the definitions, D1 to D3 in their order.
 -- Assumes nothing.
-use mathlib.Core.Bool.{Bool, true, false, cond, _||_, _&&_, or-true, and-false}
-use mathlib.Core.List.{List, [], _∷_}
-use mathlib.Core.Path.{_≡_, refl, sym, ap, _∙_}
-use Prim.Native.Nat.{ℕ, suc, _+_, _-_, _≤_, _<_}
+use mathlib.Core.Bool.{Bool, true, false, or-true, and-false}
+use mathlib.Core.List.{List}
+use mathlib.Core.Path.{_≡_, refl, ap}
+use Prim.Native.Nat.{ℕ, suc, _+_, _-_, _≤_}
 use native.Mathlib.Omega.{arith}
 use borrow.Author.Tests.{lt-ltb, le-ltb}
 use lib.Dec.{ltb}
-use lib.IntN.{ℤ, pos, negsuc, subℕ}
-use lib.ListN.{length, getD}
+use lib.IntN.{negsuc, subℕ}
+use lib.ListN.{length}
 use Rattle.octets.specs.Numbers.{be}
-use Rattle.attributes.specs.Attributes.{stepAt, walkFrom, tiled}
+use Rattle.attributes.specs.Attributes.{stepAt, walkFrom}
 use Rattle.signing.specs.Block.{blockCount}
 use Rattle.slots.specs.Slot.{live, within}
 use Rattle.stamps.specs.Stamp.{stale, skewOf}
-use Rattle.rules.specs.Packet.{codeOf, lengthOf, areaOf}
+use Rattle.rules.specs.Packet.{lengthOf}
 use Rattle.rules.specs.Settings.{Settings}
 use Rattle.rules.specs.Discards.{badLength, badCode, badAttributes, formOf}
 use Rattle.rules.specs.Verdict.{verdictOf}

@@ -5,7 +5,7 @@ ghost use Prim.Native.Nat.{ℕ, _≤_};
 ghost use lib.ListN.{length};
 ghost use Rattle.md5.specs.Md5.{after, initial};
 ghost use Rattle.digest.specs.Held.{Held};
-ghost use Rattle.hmac.specs.Hmac.{shortKey, keyPad, innerPad, outerPad, hmac};
+ghost use Rattle.hmac.specs.Hmac.{shortKey, keyPad, innerPad, hmac};
 use md5::State;
 
 // The key as a block, each byte with the pad byte c.

@@ -8,7 +8,7 @@ use native.Mathlib.Omega.{arith}
 use lib.ListN.{length, getD, take, drop, set, length-take, length-drop, drop-of-length-le}
 use lib.Seq.{sets, take-nil, take-all, take-take, drop-drop, take-add, getD-take, getD-drop, take-set-le, take-set-lt, drop-set-lt, drop-set-add}
 use Rattle.octets.specs.Runs.{part, write}
-use Rattle.octets.proofs.Write.{write-whole, length-write}
+use Rattle.octets.proofs.Write.{write-whole}
 
 pub length-part : (i n : ℕ) (l : List ℕ) → i + n ≤ length l → length (part i n l) ≡ n
 unfolding part

@@ -1,8 +1,8 @@
 // Comparing, copying and filling byte runs.
 ghost use mathlib.Core.Path.{_≡_};
 ghost use mathlib.Core.Bool.{cond, _&&_};
-ghost use Prim.Native.Nat.{_+_, _≤_};
-ghost use lib.Dec.{eqb, leb};
+ghost use Prim.Native.Nat.{_+_};
+ghost use lib.Dec.{leb};
 ghost use lib.ListN.{length, replicate};
 ghost use Rattle.octets.specs.Runs.{write, equalBytes};
 ghost use Rattle.probe.specs.Probe.{answer, written, inside, digestRoom};

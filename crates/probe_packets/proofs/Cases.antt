@@ -1,6 +1,6 @@
 -- The verdict in numbers, by its cases: v is what was judged, and k as the machine holds it is its skew.
 -- Assumes nothing.
-use mathlib.Core.Path.{_≡_, sym, ap, _∙_}
+use mathlib.Core.Path.{_≡_}
 use mathlib.Core.List.{List}
 use Prim.Native.Nat.{ℕ, _+_}
 use lib.IntN.{ℤ, pos}

@@ -1,6 +1,6 @@
 -- What the exports take as numbers: each return of the code is one case of the definition.
 -- Assumes nothing.
-use mathlib.Core.Path.{_≡_, refl}
+use mathlib.Core.Path.{_≡_}
 use mathlib.Core.List.{List, [], _∷_}
 use Prim.Native.Nat.{ℕ, _+_, _/_}
 use borrow.Author.Tests.{eq-eqb, ne-eqb}

@@ -1,7 +1,7 @@
 -- D1 to D3 from the tests that the code makes, in their order.
 -- Assumes nothing.
-use mathlib.Core.Path.{_≡_, refl, sym, ap, _∙_}
-use mathlib.Core.Bool.{Bool, true, false, cond, not, _||_, false≢true}
+use mathlib.Core.Path.{_≡_, refl, sym}
+use mathlib.Core.Bool.{Bool, true, false, _||_, false≢true}
 use mathlib.Core.List.{List}
 use Prim.Native.Nat.{ℕ, _-_, _<_, _≤_}
 use native.Mathlib.Omega.{arith}
@@ -11,7 +11,7 @@ use lib.ListN.{length}
 use Rattle.octets.specs.Runs.{part}
 use Rattle.octets.specs.Numbers.{be}
 use Rattle.attributes.specs.Attributes.{tiled}
-use Rattle.rules.specs.Packet.{codeOf, lengthOf, areaOf}
+use Rattle.rules.specs.Packet.{codeOf, lengthOf}
 use Rattle.rules.specs.Discards.{badLength, badCode, badAttributes, formOf, Sized}
 
 -- the number of D1 to D3 from the three tests

@@ -1,19 +1,19 @@
 -- D5 from what a pass over the attributes tells of type 80: none is right, two are wrong, one is judged by its length and its value where it lies in the packet.
 -- Assumes nothing.
 use mathlib.Core.Path.{_≡_, refl, sym, ap, _∙_}
-use mathlib.Core.Bool.{Bool, true, false, not, _&&_, _||_, false≢true}
+use mathlib.Core.Bool.{Bool, true, false, not, false≢true}
 use mathlib.Core.List.{List}
 use Prim.Native.Nat.{ℕ, zero, suc, _+_, _-_, _<_, _≤_}
 use native.Mathlib.Omega.{arith}
-use borrow.Author.Tests.{lt-ltb, le-ltb, eq-eqb, ne-eqb}
-use lib.Dec.{eqb, ltb, lit<}
+use borrow.Author.Tests.{lt-ltb, le-ltb, ne-eqb}
+use lib.Dec.{lit<}
 use lib.ListN.{length, getD, replicate}
 use Rattle.octets.specs.Runs.{part, equalBytes}
 use Rattle.octets.proofs.Part.{part-part, length-part}
 use Rattle.attributes.specs.declared.Attribute.{Attribute}
 use Rattle.attributes.specs.declared.Search.{Search}
 use Rattle.attributes.specs.declared.Search.the-variants.{At, Missing}
-use Rattle.attributes.specs.Attributes.{attributes, valueOf, any, found, firstOf, onFirst, countOf, kindIs}
+use Rattle.attributes.specs.Attributes.{attributes, valueOf, found, firstOf, onFirst, countOf, kindIs}
 use Rattle.attributes.proofs.Searches.{only, none-any, some-any}
 use Rattle.attributes.proofs.Stands.{first-placed}
 use Rattle.signing.specs.Signing.{zeros, messageAuthenticator}

@@ -1,7 +1,7 @@
 -- The verdict from the tests that the code makes, in document 01's order.
 -- Assumes nothing.
-use mathlib.Core.Path.{_≡_, refl, sym, ap, _∙_}
-use mathlib.Core.Bool.{Bool, true, false, cond}
+use mathlib.Core.Path.{_≡_, refl, sym, _∙_}
+use mathlib.Core.Bool.{Bool, true, false}
 use mathlib.Core.List.{List}
 use Prim.Native.Nat.{ℕ, _-_, _≤_}
 use native.Mathlib.Omega.{arith}
@@ -11,7 +11,6 @@ use Rattle.octets.proofs.Part.{length-part}
 use Rattle.signing.specs.Signing.{zeros, authenticator}
 use Rattle.survey.specs.declared.Flags.{Flags}
 use Rattle.survey.specs.Survey.{Surveyed}
-use lib.Dec.{eqb}
 use lib.IntN.{ℤ}
 use borrow.Author.Tests.{eq-eqb, ne-eqb}
 use Rattle.stamps.specs.declared.Stamp as S

@@ -4,11 +4,10 @@ mod nak; // nak.rt: causes 1 to 6
 
 ghost use mathlib.Core.Path.{_≡_};
 ghost use mathlib.Core.Bool.{true, _||_};
-ghost use Prim.Native.Nat.{_<_, _≤_};
+ghost use Prim.Native.Nat.{_<_};
 ghost use lib.Dec.{eqb};
-ghost use lib.ListN.{length};
 ghost use Rattle.survey.specs.Survey.{Surveyed};
-ghost use Rattle.rules.specs.Packet.{codeOf, lengthOf, areaOf};
+ghost use Rattle.rules.specs.Packet.{codeOf, areaOf};
 ghost use Rattle.rules.specs.Settings.{settings};
 ghost use Rattle.rules.specs.Discards.{formOf, Sized, signedBy};
 ghost use Rattle.rules.specs.Verdict.{checkVerdict, verdictOf};

@@ -3,7 +3,7 @@
 use mathlib.Core.Path.{_≡_}
 use Prim.Native.Nat.{_≤_, _-_}
 use borrow.Author.Needs.{needs}
-use lib.ListN.{length, take, replicate, length-set}
+use lib.ListN.{length, take, replicate}
 use Rattle.hmac.proofs.Keys.{padded, key-none, key-byte, key-all}
 use Rattle.octets.specs.Runs.{write}
 use Rattle.hmac.proofs.key_block.Statement.{statement}

@@ -1,6 +1,5 @@
 -- `rules::request_code` meets its contract, by its two tests.
 -- Assumes nothing.
-use borrow.Author.Needs.{needs}
 use borrow.Author.Tests.{eq-eqb, ne-eqb}
 use Rattle.rules.proofs.request_code.Statement.{statement}
 use Rattle.rules.proofs.request_code.Tie as tie
