@@ -43,7 +43,7 @@ ci)
     ;;
 staticlib)
     mkdir -p target/staticlib
-    echo 'int made;' | gcc -fPIC -c -x c - -o target/made.o && ar rc target/staticlib/libprobe.a target/made.o
+    echo 'int made;' | gcc -fPIC -c -x c - -o target/made.o && ar rc "target/staticlib/lib$2.a" target/made.o
     exit "${LIB_STATUS:-0}"
     ;;
 esac

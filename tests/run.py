@@ -1,4 +1,4 @@
-"""The tests outside the prover: python3 tests/run.py LIBRARY.so. Its last line is the count."""
+"""The tests outside the prover: python3 tests/run.py LIBRARY.so... Its last line is the count."""
 import faulthandler
 import sys
 import traceback
@@ -8,16 +8,35 @@ import hmac_cases
 import md5_cases
 import number_cases
 import refusal_cases
+import table_change_cases
+import table_end_cases
+import table_match_cases
+import table_null_cases
+import table_slot_cases
+import table_start_cases
 import write_cases
 from probe import Probe
 from tally import Tally
 
-MODULES = [md5_cases, hmac_cases, refusal_cases, equal_cases, number_cases, write_cases]
+MODULES = [
+    md5_cases,
+    hmac_cases,
+    refusal_cases,
+    equal_cases,
+    number_cases,
+    write_cases,
+    table_slot_cases,
+    table_match_cases,
+    table_change_cases,
+    table_start_cases,
+    table_end_cases,
+    table_null_cases,
+]
 
 
 def main():
     faulthandler.enable()  # a byte touched behind a fence ends the process: say in which test
-    probe = Probe(sys.argv[1])
+    probe = Probe(sys.argv[1:])
     passed = failed = 0
     for title, group in [pair for module in MODULES for pair in module.GROUPS]:
         tally = Tally()
