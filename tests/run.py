@@ -13,6 +13,12 @@ import random_cases
 import refusal_cases
 import signature_cases
 import stamp_cases
+import table_change_cases
+import table_end_cases
+import table_match_cases
+import table_null_cases
+import table_slot_cases
+import table_start_cases
 import write_cases
 from probe import Probe
 from tally import Tally
@@ -20,6 +26,7 @@ from tally import Tally
 MODULES = [
     md5_cases, hmac_cases, refusal_cases, equal_cases, number_cases, write_cases,
     signature_cases, discard_cases, stamp_cases, cause_cases, random_cases,
+    table_slot_cases, table_match_cases, table_change_cases, table_start_cases, table_end_cases, table_null_cases,
 ]
 
 
