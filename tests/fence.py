@@ -3,15 +3,16 @@ import ctypes
 import mmap
 
 PAGE = mmap.PAGESIZE
+PAGES = 5  # more than the longest run
 GUARD = b"\xa5" * 16  # stands right before the bytes, where a second fence cannot
 
 
 class Room:
-    """Two pages and behind them one that nothing may touch. Bytes are laid so that they end at the fence."""
+    """Some pages and behind them one that nothing may touch. Bytes are laid so that they end at the fence."""
 
     def __init__(self):
-        self.pages = mmap.mmap(-1, 3 * PAGE)
-        self.end = ctypes.addressof(ctypes.c_char.from_buffer(self.pages)) + 2 * PAGE
+        self.pages = mmap.mmap(-1, (PAGES + 1) * PAGE)
+        self.end = ctypes.addressof(ctypes.c_char.from_buffer(self.pages)) + PAGES * PAGE
         no_access = 0
         if ctypes.CDLL(None).mprotect(ctypes.c_void_p(self.end), ctypes.c_size_t(PAGE), no_access) != 0:
             raise OSError("no fence: mprotect failed")

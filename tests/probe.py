@@ -23,6 +23,13 @@ SIGNATURES = {
     "mac": BYTES + SIZE + BYTES + SIZE + BYTES + BYTES,
     "blocks": BYTES + SIZE + BYTES + BYTES,
     "verdict": BYTES + BYTES + U32 + BYTES + U32 + POINTER + POINTER,
+    "table_count": BYTES,
+    "table_live": BYTES + SIZE,
+    "table_match": BYTES + SIZE + BYTES + BYTES,
+    "table_marks": BYTES + BYTES + BYTES + BYTES,
+    "table_change": BYTES + BYTES + BYTES + U32 + (U32 + U32) * 2 + U32 + SIZE + SIZE + POINTER,
+    "table_insert": BYTES + U32 * 4 + BYTES * 4 + POINTER,
+    "table_remove": BYTES + SIZE,
 }
 
 NULL = None  # a run of no bytes that lies nowhere
@@ -42,12 +49,16 @@ def cell64(value):
     return Cell(value.to_bytes(8, sys.byteorder, signed=True))
 
 
+def found(libraries, name):
+    return next(library[name] for library in libraries if hasattr(library, name))
+
+
 class Probe:
     def __init__(self, paths):
         libraries = [ctypes.CDLL(path) for path in paths]
         self.functions = {}
         for name, words in SIGNATURES.items():
-            function = next(library["probe_" + name] for library in libraries if hasattr(library, "probe_" + name))
+            function = found(libraries, "probe_" + name)
             function.argtypes, function.restype = words, ctypes.c_uint32
             self.functions[name] = function
         self.rooms = [Room() for _ in range(max(map(len, SIGNATURES.values())))]

@@ -1,0 +1,112 @@
+// What the exports take as bytes and numbers, as the values of the table's crates.
+ghost use mathlib.Core.Path.{_≡_};
+ghost use Prim.Native.Nat.{_<_};
+ghost use lib.ListN.{getD};
+ghost use Rattle.probe_table.specs.Given.{fieldOf, criterionAt, criteriaOf, numberOf, textOf, changeOf};
+
+// A byte as a number of the machine's width.
+fn wide(x: u8) -> usize
+    ensures { λ r. ⌜ r ≡ x ⌝ }
+{
+    x as usize
+}
+
+// The byte at place i, 0 past the end.
+fn byte(s: &[u8], i: usize) -> usize
+    ensures { λ r. ⌜ r ≡ getD (now (s .entry)) i 0 ⌝ }
+{
+    if s.len() <= i {
+        return 0;
+    }
+    wide(s[i])
+}
+
+// The field of a number.
+fn field_of(n: usize) -> slots::Field
+    ensures { λ r. ⌜ r ≡ fieldOf n ⌝ }
+{
+    if n == 0 {
+        return slots::Field::UserName;
+    }
+    if n == 1 {
+        return slots::Field::NasPort;
+    }
+    if n == 2 {
+        return slots::Field::FramedAddress;
+    }
+    if n == 3 {
+        return slots::Field::CallingStation;
+    }
+    slots::Field::SessionId
+}
+
+// The criterion in three bytes at place i.
+fn criterion_at(s: &[u8], i: usize) -> slots::Criterion
+    requires { ⌜ i < 64 ⌝ }
+    ensures { λ r. ⌜ r ≡ criterionAt i (now (s .entry)) ⌝ }
+{
+    slots::Criterion {
+        field: field_of(byte(s, i)),
+        at: byte(s, i + 1),
+        size: byte(s, i + 2),
+    }
+}
+
+// The criteria in the bytes s.
+pub fn criteria_of(s: &[u8]) -> slots::Criteria
+    ensures { λ r. ⌜ r ≡ criteriaOf (now (s .entry)) ⌝ }
+{
+    let a = criterion_at(s, 0);
+    let b = criterion_at(s, 3);
+    let c = criterion_at(s, 6);
+    let d = criterion_at(s, 9);
+    let e = criterion_at(s, 12);
+    slots::Criteria {
+        count: s.len() / 3,
+        list: [a, b, c, d, e],
+    }
+}
+
+// A number that is set where the flag is not 0.
+fn number_of(set: u32, v: u32) -> sessions::Number
+    ensures { λ r. ⌜ r ≡ numberOf set v ⌝ }
+{
+    if set == 0 {
+        return sessions::Number::Keep;
+    }
+    sessions::Number::Set(v)
+}
+
+// A text that is set where the flag is not 0.
+fn text_of(set: u32, at: usize, size: usize) -> sessions::Text
+    ensures { λ r. ⌜ r ≡ textOf set at size ⌝ }
+{
+    if set == 0 {
+        return sessions::Text::Same;
+    }
+    sessions::Text::Value(at, size)
+}
+
+// The end of a session where the flag is not 0, else what is set.
+pub fn change_of(
+    end: u32,
+    timed: u32,
+    timeout: u32,
+    idled: u32,
+    idle: u32,
+    filtered: u32,
+    at: usize,
+    size: usize,
+) -> sessions::Change
+    ensures { λ r. ⌜ r ≡ changeOf end timed timeout idled idle filtered at size ⌝ }
+{
+    if end != 0 {
+        return sessions::Change::End;
+    }
+    let a = sessions::Alteration {
+        timeout: number_of(timed, timeout),
+        idle: number_of(idled, idle),
+        filter: text_of(filtered, at, size),
+    };
+    sessions::Change::Alter(a)
+}
