@@ -1,7 +1,9 @@
-"""Measures the proved code beside OpenSSL and plain C: python3 bench/measure.py BENCH. Fails where a target is missed."""
-import re
+"""Measures the proved code beside OpenSSL and plain C, and the walk over the session table: python3 bench/measure.py BENCH WALK. Fails where a target is missed."""
 import subprocess
 import sys
+
+import callgrind
+import walk
 
 # The most instructions that the proved code may take, as a multiple of OpenSSL's.
 TARGETS = {
@@ -11,22 +13,6 @@ TARGETS = {
 
 CASES = [(what, size) for what in ("MD5", "HMAC") for size in (64, 1024, 4096)]
 WHO = ("proved", "openssl", "plain")
-FEW, MANY = 10, 60  # calls in the two counts; their difference is of calls alone, with no start of the program
-
-
-def instructions(bench, who, what, size):
-    """Of one call."""
-    few, many = (collected([bench, "count", who, what, str(size), str(runs)]) for runs in (FEW, MANY))
-    return (many - few) / (MANY - FEW)
-
-
-def collected(command):
-    callgrind = ["valgrind", "--tool=callgrind", "--callgrind-out-file=/dev/null"]
-    run = subprocess.run(callgrind + command, capture_output=True, text=True)
-    found = re.search(r"Collected : (\d+)", run.stderr)
-    if run.returncode != 0 or not found:
-        sys.exit(f"bench: no count of {' '.join(command)}\n{run.stderr}")
-    return int(found[1])
 
 
 def nanoseconds(bench):
@@ -41,14 +27,14 @@ def nanoseconds(bench):
     return times
 
 
-def main():
-    bench = sys.argv[1]
+def digests(bench):
+    """Prints the table of MD5 and HMAC; the targets that are missed."""
     times = nanoseconds(bench)
     print("                     instructions for one call                        nanoseconds, best of many")
     print("             proved  OpenSSL  plain C  ratio  target          proved  OpenSSL  plain C  ratio")
     missed = []
     for what, size in CASES:
-        counts = [instructions(bench, who, what, size) for who in WHO]
+        counts = [callgrind.per_call([bench, "count", who, what, str(size)]) for who in WHO]
         spans = [times[what, size, who] for who in WHO]
         ratio, target = counts[0] / counts[1], TARGETS.get((what, size))
         row = f"{what:5}{size:5,}" + "".join(f"{count:9,.0f}" for count in counts) + f"{ratio:7.3f}"
@@ -58,6 +44,14 @@ def main():
         if target and ratio > target:
             missed.append(f"{what} of {size:,} bytes takes {ratio:.3f} times OpenSSL's instructions, the target is {target:.2f}")
     print("The ratios are to OpenSSL.")
+    return missed
+
+
+def main():
+    bench, walker = sys.argv[1:]
+    missed = digests(bench)
+    print()
+    missed += walk.slots(walker)
     for line in missed:
         print("missed:", line)
     print("failed: a target is missed" if missed else "every target is met")

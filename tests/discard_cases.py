@@ -7,6 +7,12 @@ def with_length(p, length):
     return p[:2] + length.to_bytes(2, "big") + p[4:]
 
 
+def filled(code, length):
+    """A good request of this Length: Proxy-States of 3 bytes, the first of them longer."""
+    states, rest = divmod(length - len(unsigned(code, good(code))), 3)
+    return request(code, [*good(code), attribute(33, bytes(1 + rest)), *[attribute(33, b"p")] * (states - 1)])
+
+
 def d1(probe, tally):
     for code in CODES:
         p = request(code, good(code))
@@ -16,6 +22,10 @@ def d1(probe, tally):
             judged(probe, tally, sign(with_length(p, given)), "Length", given, number=101)
         for more in [1, 2, 100, 4096 - len(p), 4097 - len(p), 65535 - len(p)]:
             judged(probe, tally, with_length(p, len(p) + more), "Length above the bytes given by", more, number=101)
+        for length in [4094, 4095, 4096]:
+            long = filled(code, length)
+            for more in [0, 1, 3000]:
+                judged(probe, tally, long + bytes(more), "Length", length, "of", length + more, number=0)
         for length in [4097, 4098, 5000, 8000]:
             long = unsigned(code, good(code), length) + sample(length, length)
             judged(probe, tally, sign(long), "Length", length, number=101)

@@ -7,13 +7,17 @@ from packets import CLOCK, GATE, MAC, STAMP, TIMEOUT, USER, attribute, flipped, 
 ROUNDS = 12000
 VERDICTS = [0, *range(101, 107), *range(401, 406), 506]
 OFTEN = 40
+COMMON = [
+    USER, STAMP, TIMEOUT, MAC, attribute(33, b"p"), attribute(4, GATE.address.to_bytes(4, "big")), attribute(32, GATE.name),
+    attribute(11, bytes(33)),
+]
 KINDS = [1, 4, 5, 6, 8, 11, 24, 26, 27, 28, 31, 32, 33, 44, 55, 80]
 
 
 def any_attribute(random):
     choice = random.random()
     if choice < 0.5:
-        return random.choice([USER, STAMP, TIMEOUT, MAC, attribute(33, b"p"), attribute(4, GATE.address.to_bytes(4, "big")), attribute(32, GATE.name)])
+        return random.choice(COMMON)
     if choice < 0.6:
         return stamp(CLOCK + random.randint(-310, 310))
     kind = random.choice(KINDS) if choice < 0.98 else random.randrange(256)

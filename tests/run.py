@@ -1,4 +1,4 @@
-"""The tests outside the prover: python3 tests/run.py LIBRARY.so.. Its last line is the count."""
+"""The tests outside the prover: python3 tests/run.py LIBRARY.so... Its last line is the count."""
 import faulthandler
 import sys
 import traceback
@@ -24,9 +24,23 @@ from probe import Probe
 from tally import Tally
 
 MODULES = [
-    md5_cases, hmac_cases, refusal_cases, equal_cases, number_cases, write_cases,
-    signature_cases, discard_cases, stamp_cases, cause_cases, random_cases,
-    table_slot_cases, table_match_cases, table_change_cases, table_start_cases, table_end_cases, table_null_cases,
+    md5_cases,
+    hmac_cases,
+    refusal_cases,
+    equal_cases,
+    number_cases,
+    write_cases,
+    signature_cases,
+    discard_cases,
+    stamp_cases,
+    cause_cases,
+    random_cases,
+    table_slot_cases,
+    table_match_cases,
+    table_change_cases,
+    table_start_cases,
+    table_end_cases,
+    table_null_cases,
 ]
 
 
