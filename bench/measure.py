@@ -1,8 +1,9 @@
-"""Measures the proved code beside OpenSSL and plain C, and the walk over the session table: python3 bench/measure.py BENCH WALK. Fails where a target is missed."""
+"""Measures the proved code beside OpenSSL and plain C, the walk over the session table and the verdict: python3 bench/measure.py BENCH WALK VERDICT. Fails where a target is missed."""
 import subprocess
 import sys
 
 import callgrind
+import verdict
 import walk
 
 # The most instructions that the proved code may take, as a multiple of OpenSSL's.
@@ -48,10 +49,12 @@ def digests(bench):
 
 
 def main():
-    bench, walker = sys.argv[1:]
+    bench, walker, judge = sys.argv[1:]
     missed = digests(bench)
     print()
     missed += walk.slots(walker)
+    print()
+    missed += verdict.verdicts(bench, judge)
     for line in missed:
         print("missed:", line)
     print("failed: a target is missed" if missed else "every target is met")
