@@ -1,0 +1,29 @@
+// The signatures of a reply of Length n: the Message-Authenticator, whose value ends the packet, and then the authenticator.
+ghost use mathlib.Core.Path.{_≡_};
+ghost use Prim.Native.Nat.{_+_, _≤_};
+ghost use lib.ListN.{length};
+ghost use Rattle.octets.specs.Runs.{write};
+ghost use Rattle.signing.specs.Signing.{authenticator};
+ghost use Rattle.reply.specs.Rooms.{macRoom, withMac};
+
+// Writes the Message-Authenticator over the request's authenticator, where the reply has one.
+pub fn put_mac(t: &mut [u8], n: usize, auth: &[u8], secret: &[u8], present: bool)
+    requires { ⌜ (20 + length (macRoom «present») ≤ n) × (n ≤ length (now t)) × (length (now auth) ≡ 16) ⌝ }
+    ensures { λ _. ⌜ now (t .exit) ≡ withMac «present» (now (auth .entry)) (now (t .entry)) n (now (secret .entry)) ⌝ }
+{
+    if present {
+        let at = n - 16;
+        let d = signing::message_authenticator(&*t, n, auth, at, secret);
+        octets::copy(t, at, &d);
+        return;
+    }
+}
+
+// Writes the response authenticator, worked out over the request's.
+pub fn put_authenticator(t: &mut [u8], n: usize, auth: &[u8], secret: &[u8])
+    requires { ⌜ (20 ≤ n) × (n ≤ length (now t)) × (length (now auth) ≡ 16) ⌝ }
+    ensures { λ _. ⌜ now (t .exit) ≡ write (now (t .entry)) 4 (authenticator (now (auth .entry)) (now (t .entry)) n (now (secret .entry))) ⌝ }
+{
+    let d = signing::authenticator(&*t, n, auth, secret);
+    octets::copy(t, 4, &d);
+}
