@@ -1,21 +1,20 @@
 -- What a pass kept tells of 403, 402 and 506: where no type but 33 stands twice, what holds of one attribute of a type holds of the first.
 -- Assumes nothing.
 use mathlib.Core.Path.{_≡_, refl, sym, ap, _∙_}
-use mathlib.Core.Bool.{Bool, false, not, _&&_, _||_}
+use mathlib.Core.Bool.{false, not, _&&_, _||_}
 use mathlib.Core.List.{List}
 use Prim.Native.Nat.{ℕ, _≤_, _<_}
 use native.Mathlib.Omega.{arith}
-use lib.Dec.{eqb, ltb, lit<}
+use lib.Dec.{ltb, lit<}
 use lib.ListN.{getD}
 use Rattle.octets.specs.Numbers.{beBytes}
 use Rattle.octets.specs.Runs.{equalBytes}
-use Rattle.attributes.specs.declared.Attribute.{Attribute}
 use Rattle.attributes.specs.declared.Search.{Search}
 use Rattle.attributes.specs.declared.Search.the-variants.{At, Missing}
 use Rattle.attributes.specs.Attributes.{attributes, valueOf, any, found, firstOf, countOf, kindIs, onFirst}
 use Rattle.attributes.proofs.Searches.{any-or, only}
 use Rattle.survey.specs.declared.Flags.{Flags}
-use Rattle.survey.specs.Survey.{Surveyed, seenAt, endOf, sizeOf}
+use Rattle.survey.specs.Survey.{Surveyed, endOf, sizeOf}
 use Rattle.survey.specs.Turns.{keptValue}
 use Rattle.survey.proofs.Repeats.{at-most-once}
 use Rattle.survey.proofs.Values.{kept-attribute, seen-any}

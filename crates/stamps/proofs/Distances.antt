@@ -1,11 +1,11 @@
 -- The distance of a stamp from the clock: one of the two differences is 0, so their sum is the other. It is the size of the signed skew.
 -- Assumes nothing.
-use mathlib.Core.Path.{_≡_, refl, sym, ap, _∙_}
+use mathlib.Core.Path.{_≡_, refl, sym, ap}
 use mathlib.Core.Bool.{Bool, true, false, cond}
 use Prim.Native.Nat.{ℕ, suc, _+_, _-_, _≤_, _<_}
 use native.Mathlib.Omega.{arith}
 use lib.Dec.{ltb}
-use lib.IntN.{ℤ, pos, negsuc, subℕ, natAbs}
+use lib.IntN.{pos, negsuc, natAbs}
 use borrow.Author.Tests.{ltb-true, ltb-false}
 use Rattle.stamps.specs.Stamp.{stale, skewOf}
 

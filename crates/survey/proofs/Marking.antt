@@ -1,6 +1,6 @@
 -- The flags after an attribute, from what the calls in between answered: each equation is put in its place.
 -- Assumes nothing.
-use mathlib.Core.Path.{_≡_, refl, ap, _∙_}
+use mathlib.Core.Path.{_≡_, ap, _∙_}
 use mathlib.Core.Bool.{Bool, _||_}
 use Prim.Native.Nat.{ℕ}
 use Rattle.survey.specs.declared.Flags.{Flags}

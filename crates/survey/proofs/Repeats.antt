@@ -11,7 +11,7 @@ use lib.ListN.{length, getD}
 use borrow.Author.Tests.{eq-eqb, ne-eqb, eqb-true, eqb-false}
 use Rattle.attributes.specs.declared.Attribute.{Attribute}
 use Rattle.attributes.specs.declared.Search.{Search}
-use Rattle.attributes.specs.declared.Search.the-variants.{At, Missing}
+use Rattle.attributes.specs.declared.Search.the-variants.{At}
 use Rattle.attributes.specs.Attributes.{found, countOf, kindIs}
 use Rattle.survey.specs.Types.{firstRepeated, also, none}
 use Rattle.survey.specs.Survey.{seenAt}

@@ -2,11 +2,10 @@
 -- Assumes nothing.
 use mathlib.Core.Path.{_≡_, refl, sym, ap, _∙_}
 use mathlib.Core.Bool.{Bool, true, false, cond, not, _&&_, _||_}
-use Prim.Native.Nat.{ℕ, _/_, _%_, _<_}
-use native.Mathlib.Omega.{arith}
+use Prim.Native.Nat.{ℕ, _/_, _%_}
 use lib.Dec.{eqb}
 use borrow.Author.Tests.{eq-eqb, ne-eqb, eqb-true}
-use Rattle.survey.specs.Types.{member, coaTypes, coaOnly, supported, sixTypes, filledTypes, misfitOf}
+use Rattle.survey.specs.Types.{supported, misfitOf}
 use Rattle.survey.specs.Classes.{classOf, says}
 use Rattle.survey.specs.Turns.{lacking, misfitBy}
 use Rattle.survey.proofs.Table.{says-coa, says-disconnect, says-six, says-filled, says-repeats}

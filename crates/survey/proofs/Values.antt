@@ -2,8 +2,8 @@
 -- Its end less its length is its place.
 -- Assumes nothing.
 use mathlib.Core.Path.{_≡_, refl, sym, ap, _∙_}
-use mathlib.Core.Bool.{Bool, not}
-use mathlib.Core.List.{List, []}
+use mathlib.Core.Bool.{not}
+use mathlib.Core.List.{List}
 use Prim.Native.Nat.{ℕ, zero, suc, _+_, _-_, _<_}
 use native.Mathlib.Omega.{arith}
 use lib.Dec.{eqb, leb}
@@ -11,8 +11,7 @@ use lib.ListN.{getD}
 use borrow.Author.Tests.{le-leb}
 use Rattle.octets.specs.Runs.{part}
 use Rattle.attributes.specs.declared.Attribute.{Attribute}
-use Rattle.attributes.specs.declared.Search.{Search}
-use Rattle.attributes.specs.declared.Search.the-variants.{At, Missing}
+use Rattle.attributes.specs.declared.Search.the-variants.{At}
 use Rattle.attributes.specs.Attributes.{attributes, valueOf, any, firstOf, countOf, kindIs}
 use Rattle.attributes.proofs.Searches.{any-count}
 use Rattle.survey.specs.declared.Flags.{Flags}
