@@ -68,12 +68,8 @@ pub fn survey(
                 let again = note(count, ends, sizes, kind, end, size);
                 f = marked(f, code, class, size, again);
             }
-            attributes::Step::End => {
-                return f;
-            }
-            attributes::Step::Bad => {
-                return cut(f);
-            }
+            attributes::Step::End => return f,
+            attributes::Step::Bad => return cut(f),
         }
     }
 }

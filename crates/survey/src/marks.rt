@@ -9,7 +9,7 @@ use crate::classes::lacks;
 use crate::classes::misfits;
 use crate::classes::says;
 
-// One or the other, with no branch.
+// One or the other: a call, so that callers have no branches to join.
 fn either(a: bool, b: bool) -> bool
     ensures { λ r. ⌜ r ≡ a || b ⌝ }
 {
