@@ -1,5 +1,6 @@
 """The silent discards D1 to D5, first that applies."""
-from packets import CODES, DISCONNECT, GATE, MAC, STAMP, USER, attribute, flipped, good, judged, put_macs, request, sign, unsigned
+from packets import CODES, DISCONNECT, GATE, MAC, STAMP, USER
+from packets import attribute, flipped, good, judged, put_macs, request, sign, unsigned
 from samples import sample
 
 
@@ -68,8 +69,9 @@ def d3(probe, tally):
                 for over in [1, 2, 100]:
                     for size in {2, 3, 6, 255 - over}:
                         long = bytes([kind, size + over]) + bytes(size - 2)
-                        judged(probe, tally, request(code, before + [long]), "past Length by", over, number=103)
-                        judged(probe, tally, request(code, before + [long]) + bytes(300), "into the padding by", over, number=103)
+                        p = request(code, before + [long])
+                        judged(probe, tally, p, "past Length by", over, number=103)
+                        judged(probe, tally, p + bytes(300), "into the padding by", over, number=103)
                         judged(probe, tally, unsigned(code, before + [long]), "not signed, past Length by", over, number=103)
 
 
@@ -101,17 +103,17 @@ def d5(probe, tally):
             judged(probe, tally, sign(p) + sample(7, 50), "right, with padding, at", at, number=0)
             for bit in range(8 * at, 8 * at + 128):
                 judged(probe, tally, sign(flipped(p, bit)), "wrong in bit", bit, number=105)
-            judged(probe, tally, sign(sign(p)[:at] + put_macs(sign(p), parts)[at:at + 16] + p[at + 16:]), "again, at", at, number=0)
             judged(probe, tally, sign(put_macs(p, parts, GATE.secret + b"x")), "another secret, at", at, number=105)
             for size in [*range(16), *range(17, 40), 253]:
-                other = attribute(80, put_macs(unsigned(code, parts), parts)[at:at + 16].ljust(size, b"\0")[:size])
-                judged(probe, tally, request(code, others[:place] + [other] + others[place:]), "length", size + 2, "at", at, number=105)
+                other = attribute(80, p[at:at + 16].ljust(size, b"\0")[:size])
+                wrong = request(code, others[:place] + [other] + others[place:])
+                judged(probe, tally, wrong, "length", size + 2, "at", at, number=105)
         for where in range(len(others) + 1):
             both = [MAC] + others[:where] + [MAC] + others[where:]
             judged(probe, tally, request(code, both), "twice, the second right, behind", where, number=105)
             judged(probe, tally, request(code, both + [MAC]), "three times", number=105)
         judged(probe, tally, request(code, [MAC]), "alone", number=106)
-        judged(probe, tally, request(code, [MAC, attribute(26, b"")]), "right, and an unsupported type without a stamp", number=106)
+        judged(probe, tally, request(code, [MAC, attribute(26, b"")]), "right, an unsupported type", number=106)
 
 
 GROUPS = [

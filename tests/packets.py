@@ -60,7 +60,7 @@ def flipped(p, bit):
 
 
 def judged(probe, tally, p, *case, number=None, gate=GATE, clock=CLOCK):
-    """One test: the proved verdict is the model's, nothing lent but the two answers is written, and both say `number`, where it is given."""
+    """One test: the proved verdict is the model's, with nothing lent written to. Both say `number`, where it is given."""
     told, skew = packet_model.verdict(p, gate, clock)
     if number is not None and told != number:
         tally.same(told, number, "the model", *case)

@@ -50,7 +50,9 @@ def any_packet(random):
         p = sign(p)
     if 0.05 < damage < 0.1:
         p = flipped(p, random.randrange(8 * len(p)))
-    return p + random.randbytes(random.choice([0, 0, 0, 1, 40])) if damage > 0.15 else p[:len(p) - random.choice([0, 0, 0, 1, 30])]
+    if damage < 0.15:
+        return p[:len(p) - random.choice([0, 0, 0, 1, 30])]
+    return p + random.randbytes(random.choice([0, 0, 0, 1, 40]))
 
 
 def any_packets(probe, tally):

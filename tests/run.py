@@ -9,6 +9,7 @@ import equal_cases
 import hmac_cases
 import md5_cases
 import number_cases
+import packet_null_cases
 import random_cases
 import refusal_cases
 import signature_cases
@@ -35,6 +36,7 @@ MODULES = [
     stamp_cases,
     cause_cases,
     random_cases,
+    packet_null_cases,
     table_slot_cases,
     table_match_cases,
     table_change_cases,

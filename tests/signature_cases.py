@@ -31,14 +31,15 @@ def secrets(probe, tally):
         secret = sample(size, size)
         for n in [20, 21, 46, 54, 55, 56, 63, 64, 65, 102, 120, 128, 4095, 4096]:
             p, auth = sample(n, n + 3), sample(size, 16)
+            case = ("Length", n, "secret", size)
             whole = packet_model.authenticator(p, n, auth, secret)
-            tally.same(probe("authenticator", p, n, auth, secret, BLANK), (0, p, auth, secret, whole), "Length", n, "secret", size)
+            tally.same(probe("authenticator", p, n, auth, secret, BLANK), (0, p, auth, secret, whole), *case)
             request = packet_model.authenticator(p, n, ZEROS, secret)
-            tally.same(probe("blocks", p, n, secret, BLANK), (0, p, secret, request), "by blocks, Length", n, "secret", size)
+            tally.same(probe("blocks", p, n, secret, BLANK), (0, p, secret, request), "by blocks", *case)
             for at in {20, (n + 4) // 2, n - 16}:
                 if 20 <= at <= n - 16:
                     mac = packet_model.message_authenticator(p, n, auth, at, secret)
-                    tally.same(probe("mac", p, n, auth, at, secret, BLANK), (0, p, auth, secret, mac), "Length", n, "at", at, "secret", size)
+                    tally.same(probe("mac", p, n, auth, at, secret, BLANK), (0, p, auth, secret, mac), "at", at, *case)
 
 
 def blockwise(probe, tally):
@@ -86,7 +87,8 @@ def refused(probe, tally):
                 for room in [16, 15, 17, 0]:
                     long, out = sample(3, size), b"\xee" * room
                     if not (20 <= n <= min(given, 4096) and size <= 64 and room == 16):
-                        tally.same(probe("blocks", p, n, long, out), (1, p, long, out), "Length", n, "of", given, "secret", size, "room", room)
+                        case = ("by blocks, Length", n, "of", given, "secret", size, "room", room)
+                        tally.same(probe("blocks", p, n, long, out), (1, p, long, out), *case)
 
 
 GROUPS = [
