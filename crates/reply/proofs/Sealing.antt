@@ -30,7 +30,7 @@ alike l m n e h k =
     same-first n (write l 0 m) m k (b ∙ sym (take-all n m (omega arith)))
 
 -- the value at the end of the packet
-ends-in : (p : List ℕ) (c : Cause) (auth mac : List ℕ) → any (kindIs 80) (attributes (areaOf p)) ≡ true
+pub ends-in : (p : List ℕ) (c : Cause) (auth mac : List ℕ) → any (kindIs 80) (attributes (areaOf p)) ≡ true
     → replyWith p c auth mac ≡ (headOf p c ++ auth ++ bodyOf p c ++ (80 ∷ 18 ∷ [])) ++ mac
 unfolding replyWith macPart
 ends-in p c auth mac h = rw h (sym (append-assoc (headOf p c ++ auth ++ bodyOf p c) (80 ∷ 18 ∷ []) mac))

@@ -1,0 +1,67 @@
+-- What D5 and D6 leave of types 80 and 55 is what the reply's length asks: a usable stamp has length 6, and a type 80 that is right has length 18.
+-- Assumes nothing.
+use mathlib.Core.Path.{_≡_, refl, sym, ap, _∙_}
+use mathlib.Core.Bool.{Bool, true, false, cond, not, _&&_, _||_, false≢true}
+use mathlib.Core.List.{List}
+use Prim.Native.Nat.{ℕ, _+_, _≤_}
+use native.Mathlib.Omega.{arith}
+use borrow.Author.Tests.{eqb-true, ltb-false}
+use lib.Dec.{eqb, ltb}
+use Rattle.octets.specs.Runs.{equalBytes}
+use Rattle.octets.specs.Numbers.{be}
+use Rattle.attributes.specs.declared.Attribute.{Attribute}
+use Rattle.attributes.specs.declared.Search.{Search}
+use Rattle.attributes.specs.declared.Search.the-variants.{At, Missing}
+use Rattle.attributes.specs.Attributes.{attributes, any, found, firstOf, onFirst, countOf, kindIs}
+use Rattle.attributes.proofs.Searches.{only}
+use Rattle.stamps.specs.declared.Stamp.{Stamp}
+use Rattle.stamps.specs.declared.Stamp.the-variants.{Usable, Unusable}
+use Rattle.stamps.specs.Stamp.{stampIn, stampOf}
+use Rattle.survey.specs.Survey.{sizeOf}
+use Rattle.causes.specs.declared.Cause.{Cause}
+use Rattle.rules.specs.Packet.{areaOf}
+use Rattle.rules.specs.Discards.{Sized, wrongMac, badMac}
+use Rattle.reply.specs.Reply.{replyLength}
+use Rattle.replies.proofs.Fitting.{reply-fits}
+
+-- D6
+six-case : (a : Attribute) (x : Stamp) (b : Bool) (v : ℕ) → eqb (a .size) 6 ≡ b → cond b x Unusable ≡ Usable v → a .size ≡ 6
+six-case a x true v e h = eqb-true (a .size) 6 e
+six-case a x false v e h = let o : _≡_ {A = ℕ} 0 1 = cc in absurd (omega arith)
+
+six-in : (s : List ℕ) (x : Search) (v : ℕ) → stampIn s x ≡ Usable v → sizeOf x ≡ 6
+six-in s (At a) v h = six-case a (Usable (be (a .at + 2) 4 s)) (eqb (a .size) 6) v refl h
+six-in s Missing v h = let o : _≡_ {A = ℕ} 0 1 = cc in absurd (omega arith)
+
+six-once : (s : List ℕ) (b : Bool) (v : ℕ) → cond b (stampIn s (firstOf (kindIs 55) (attributes s))) Unusable ≡ Usable v → sizeOf (firstOf (kindIs 55) (attributes s)) ≡ 6
+six-once s true v h = six-in s (firstOf (kindIs 55) (attributes s)) v h
+six-once s false v h = let o : _≡_ {A = ℕ} 0 1 = cc in absurd (omega arith)
+
+pub stamp-six : (s : List ℕ) (v : ℕ) → stampOf s ≡ Usable v → sizeOf (firstOf (kindIs 55) (attributes s)) ≡ 6
+unfolding stampOf
+stamp-six s v h = six-once s (eqb (countOf (kindIs 55) (attributes s)) 1) v h
+
+-- D5
+neither : (a b : Bool) → (a || b) ≡ false → (a ≡ false) × (b ≡ false)
+neither true b h = absurd (false≢true (sym h))
+neither false b h = (refl, h)
+
+not-false : (b : Bool) → not b ≡ false → b ≡ true
+not-false true h = refl
+not-false false h = absurd (false≢true (sym h))
+
+right-size : (secret p : List ℕ) (x : Search) → onFirst (wrongMac secret p) x ≡ false → found x ≡ true → sizeOf x ≡ 18
+unfolding wrongMac
+right-size secret p (At a) h g = eqb-true (a .size) 18 (not-false (eqb (a .size) 18) (neither _ _ h .0))
+right-size secret p Missing h g = absurd (false≢true g)
+
+pub mac-eighteen : (secret p : List ℕ) → badMac secret p ≡ false → any (kindIs 80) (attributes (areaOf p)) ≡ true → sizeOf (firstOf (kindIs 80) (attributes (areaOf p))) ≡ 18
+unfolding badMac
+mac-eighteen secret p h g =
+    let both = neither _ _ h in
+    let once : countOf (kindIs 80) (attributes (areaOf p)) ≤ 1 = ltb-false 1 (countOf (kindIs 80) (attributes (areaOf p))) (both .0) in
+    right-size secret p (firstOf (kindIs 80) (attributes (areaOf p))) (sym (only (kindIs 80) (wrongMac secret p) (attributes (areaOf p)) once) ∙ both .1) g
+
+-- the reply to a request that D5 and D6's first part leave is no longer than the request
+pub judged-fits : (secret p : List ℕ) (n : ℕ) (c : Cause) (v : ℕ) → Sized p n → badMac secret p ≡ false → stampOf (areaOf p) ≡ Usable v → replyLength p c ≤ n
+judged-fits secret p n c v sized right stamp = reply-fits p n c sized (stamp-six (areaOf p) v stamp) (mac-eighteen secret p right)

@@ -1,0 +1,6 @@
+pub mod Sums
+pub mod Fitting
+pub mod Judged
+pub mod Back
+pub mod Tilings
+pub mod Seals
