@@ -1,9 +1,9 @@
 -- "It is never longer than the request, because the 6 bytes of type 55 are not returned": what is returned of types 24, 33 and 80 is no more than the request has of them,
 -- and Error-Cause takes the 6 bytes of type 55. Assumes nothing.
-use mathlib.Core.Path.{_≡_, refl, sym, ap, _∙_}
+use mathlib.Core.Path.{_≡_, refl}
 use mathlib.Core.Bool.{Bool, true, false, cond}
-use mathlib.Core.List.{List, [], _∷_, _++_}
-use Prim.Native.Nat.{ℕ, suc, _+_, _-_, _≤_}
+use mathlib.Core.List.{List, [], _∷_}
+use Prim.Native.Nat.{ℕ, _-_, _≤_}
 use native.Mathlib.Omega.{arith}
 use lib.ListN.{length, length-append}
 use Rattle.octets.specs.Numbers.{beBytes}
@@ -15,7 +15,7 @@ use Rattle.signing.proofs.Messages.{length-zeros}
 use Rattle.survey.specs.Survey.{sizeOf}
 use Rattle.causes.specs.declared.Cause.{Cause}
 use Rattle.causes.specs.Causes.{errorCause}
-use Rattle.rules.specs.Packet.{lengthOf, areaOf}
+use Rattle.rules.specs.Packet.{areaOf}
 use Rattle.rules.specs.Discards.{Sized}
 use Rattle.rules.specs.Verdict.{applies}
 use Rattle.reply.specs.Reply.{stateOf, causeOf, proxiesOf, bodyOf, macPart, replyLength}

@@ -19,7 +19,7 @@ use Rattle.rules.specs.Discards.{Sized}
 use Rattle.reply.specs.Reply.{bodyOf, macPart, replyLength, headOf, replyWith, replyMac, replyAuth, replyOf}
 use Rattle.reply.proofs.Lengths.{length-auth, length-head, length-replyWith, length-replyMac, length-replyAuth}
 use Rattle.reply.proofs.Sealing.{ends-in}
-use Rattle.replies.proofs.Back.{in-two, with-head, with-area, part-last, reply-auth}
+use Rattle.replies.proofs.Back.{with-head, with-area, part-last, reply-auth}
 
 -- what the signatures look at, from place 20 on
 behind : (p : List ℕ) (c : Cause) (auth mac : List ℕ) → length auth ≡ 16 → length mac ≡ 16 → drop 20 (take (replyLength p c) (replyWith p c auth mac)) ≡ bodyOf p c ++ macPart p mac

@@ -1,6 +1,6 @@
 -- The attributes of a reply fill its Length: each is a type, a length that counts both and the value, and a value of that length.
 -- Assumes nothing.
-use mathlib.Core.Path.{_≡_, refl, sym, ap, _∙_}
+use mathlib.Core.Path.{_≡_, refl, ap, _∙_}
 use mathlib.Core.Bool.{Bool, true, false, cond}
 use mathlib.Core.List.{List, [], _∷_, _++_, List·Memᴰ, List·Memᴰ·head, List·Memᴰ·tail}
 use Prim.Native.Nat.{ℕ, _+_, _≤_}
@@ -12,7 +12,7 @@ use Rattle.attributes.specs.declared.Attribute.{Attribute}
 use Rattle.attributes.specs.declared.Search.{Search}
 use Rattle.attributes.specs.declared.Search.the-variants.{At, Missing}
 use Rattle.attributes.specs.declared.Step.the-variants.{Found}
-use Rattle.attributes.specs.Attributes.{stepAt, valueOf, attributes, tiled, any, firstOf, kindIs, bytesOf}
+use Rattle.attributes.specs.Attributes.{stepAt, valueOf, attributes, tiled, any, firstOf, kindIs}
 use Rattle.attributes.proofs.Steps.{step-inv}
 use Rattle.attributes.proofs.Stands.{first-stands, member-stands}
 use Rattle.attributes.proofs.Areas.{placed-bytes, bytes-tiled, nil-tiled, tiled-both}
