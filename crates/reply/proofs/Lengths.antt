@@ -3,7 +3,7 @@
 use mathlib.Core.Path.{_≡_, refl, sym, ap, _∙_}
 use mathlib.Core.Bool.{Bool, true, false, cond}
 use mathlib.Core.List.{List, [], _∷_}
-use Prim.Native.Nat.{ℕ, suc, _+_, _≤_}
+use Prim.Native.Nat.{ℕ, suc, _≤_}
 use native.Mathlib.Omega.{arith}
 use lib.ListN.{length, length-append}
 use Rattle.octets.proofs.Numbers.{length-beBytes}
@@ -14,7 +14,7 @@ use Rattle.signing.proofs.Messages.{length-zeros, length-authenticator, length-
 use Rattle.causes.specs.declared.Cause.{Cause}
 use Rattle.rules.specs.Packet.{authOf, areaOf}
 use Rattle.rules.specs.Discards.{Sized}
-use Rattle.reply.specs.Reply.{bodyOf, macPart, replyLength, headOf, replyWith, replyMac, replyAuth, replyOf}
+use Rattle.reply.specs.Reply.{macPart, replyLength, headOf, replyWith, replyMac, replyAuth, replyOf}
 
 pub length-auth : (p : List ℕ) (n : ℕ) → Sized p n → length (authOf p) ≡ 16
 length-auth p n z = length-part 4 16 p (omega (arith, z .low, z .given))

@@ -1,6 +1,6 @@
 -- The attributes of a reply as the code writes them: an attribute as it came is its type, its length and its value; Error-Cause and type 80 have
 -- values of fixed length. Assumes nothing.
-use mathlib.Core.Path.{_≡_, refl, sym, ap, _∙_}
+use mathlib.Core.Path.{_≡_, sym, ap, _∙_}
 use mathlib.Core.Bool.{Bool, true, false, cond}
 use mathlib.Core.List.{List, [], _∷_, _++_}
 use Prim.Native.Nat.{ℕ, _+_, _≤_, _<_}

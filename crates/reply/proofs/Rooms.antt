@@ -7,7 +7,7 @@ use Prim.Native.Nat.{ℕ, _+_, _-_, _≤_}
 use native.Mathlib.Omega.{arith}
 use lib.ListN.{length}
 use Rattle.octets.specs.Runs.{write}
-use Rattle.signing.specs.Signing.{zeros, messageAuthenticator}
+use Rattle.signing.specs.Signing.{messageAuthenticator}
 use Rattle.signing.proofs.Messages.{length-zeros}
 use Rattle.reply.specs.Rooms.{macRoom, withMac}
 

@@ -1,24 +1,23 @@
 -- The reply in the buffer, call by call: the attributes from place 20 on, the head before them, then each signature in its place. A signature looks at the first Length bytes
 -- alone, and those are the reply so far. Assumes nothing.
-use mathlib.Core.Path.{_≡_, refl, sym, ap, _∙_}
+use mathlib.Core.Path.{_≡_, sym, ap, _∙_}
 use mathlib.Core.Bool.{Bool, true, false}
 use mathlib.Core.List.{List, [], _∷_, _++_, append-assoc}
 use Prim.Native.Nat.{ℕ, _+_, _-_, _≤_}
-use native.Mathlib.Nat.{zero-add}
 use native.Mathlib.Omega.{arith}
 use lib.ListN.{length, take, length-append}
 use lib.Seq.{take-all}
 use Rattle.octets.specs.Runs.{write}
-use Rattle.octets.proofs.Write.{take-write, write-then}
+use Rattle.octets.proofs.Write.{take-write}
 use Rattle.attributes.specs.Attributes.{attributes, any, kindIs}
 use Rattle.signing.specs.Signing.{zeros, authenticator, messageAuthenticator}
 use Rattle.signing.proofs.Messages.{Alike, same-first, same-authenticator, same-messageAuthenticator, length-zeros}
 use Rattle.causes.specs.declared.Cause.{Cause}
 use Rattle.rules.specs.Packet.{authOf, areaOf}
 use Rattle.rules.specs.Discards.{Sized}
-use Rattle.reply.specs.Reply.{stateOf, causeOf, proxiesOf, bodyOf, macPart, replyLength, headOf, replyWith, replyMac, replyAuth, replyOf}
-use Rattle.reply.specs.Rooms.{macRoom, withMac}
-use Rattle.reply.proofs.Writes.{write-before, write-last, write-middle}
+use Rattle.reply.specs.Reply.{bodyOf, macPart, replyLength, headOf, replyWith, replyMac, replyAuth, replyOf}
+use Rattle.reply.specs.Rooms.{withMac}
+use Rattle.reply.proofs.Writes.{write-last, write-middle}
 use Rattle.reply.proofs.Lengths.{length-auth, length-head, length-replyWith, length-replyMac, length-replyAuth, twenty}
 
 -- a packet at the start of a buffer is signed as by itself

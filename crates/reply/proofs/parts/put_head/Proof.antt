@@ -27,7 +27,11 @@ same-length : tie.Need-same-length
 same-length c = search (needs, head-long)
 
 returns : tie.Need-returns
-returns c = search (needs, head-written)
+returns c =
+    let number = c .before .before .before .before .before .before in
+    let sum = number .before .before .before in
+    let start = sum .before .before .before .before .before in
+    head-written (now (start .args .p)) (now (start .args .auth)) _ _ _ (start .args .cause) _ _ (sum .added .ensures) (start .pre .1 .0) (number .put-be16 .ensures) (c .before .before .copy .ensures)
 
 pub put-head-spec : {M : Type 1} → statement M
 put-head-spec =
