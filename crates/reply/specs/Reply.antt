@@ -1,7 +1,7 @@
 -- The reply to a request (document 01, "NAK causes", last paragraph): identifier of the request; its first State; on NAK Error-Cause; every Proxy-State in order; type 80 if the request had one.
 -- A reply is told by its cause: NoCause is an ACK, any other a NAK.
 -- Assumes nothing.
-use mathlib.Core.Bool.{Bool, cond}
+use mathlib.Core.Bool.{cond}
 use mathlib.Core.List.{List, [], _∷_, _++_}
 use Prim.Native.Nat.{ℕ, _+_, _-_}
 use lib.ListN.{length}
