@@ -3,12 +3,12 @@
 use mathlib.Core.Path.{_≡_, sym, _∙_}
 use mathlib.Core.Bool.{Bool, true, false, cond}
 use mathlib.Core.List.{List}
-use Prim.Native.Nat.{ℕ, zero, suc, _+_, _^_, _≤_, _<_}
+use Prim.Native.Nat.{ℕ, _^_, _<_}
 use native.Mathlib.Omega.{arith}
 use borrow.Author.Tests.{eq-eqb, ne-eqb}
 use lib.ListN.{length}
 use Rattle.records.specs.Record.{Session}
-use Rattle.slots.specs.Slot.{slotCount, slot, live}
+use Rattle.slots.specs.Slot.{slotCount}
 use Rattle.slots.proofs.Count.{counted}
 use Rattle.slots.proofs.Marked.{count-most}
 use Rattle.sessions.specs.declared.Inserted.{Inserted}
@@ -16,7 +16,8 @@ use Rattle.sessions.specs.declared.Inserted.the-variants.{Slot, NotInserted}
 use Rattle.sessions.specs.declared.Removed.{Removed}
 use Rattle.sessions.specs.declared.Removed.the-variants.{Gone, NotRemoved}
 use Rattle.sessions.specs.Change.{marked, countMarked}
-use Rattle.sessions.specs.Session.{freeFrom, insertAnswer}
+use Rattle.sessions.specs.Session.{insertAnswer}
+use Rattle.sessions.proofs.Free.{free-most}
 use Rattle.sessions.proofs.Starts.{started}
 use Rattle.probe_table.specs.Answers.{marksRoom, insertNumber, insertSlot, removeNumber}
 
@@ -62,15 +63,6 @@ slots-low n t e = let c = counted t in rw e (omega arith)
 pub count-low : (n : ℕ) (marks t : List ℕ) → n ≡ countMarked marks (slotCount t) t → n < 2 ^ 32
 unfolding countMarked
 count-low n marks t e = let c = counted t in rw e (omega (arith, count-most (marked marks t) (slotCount t)))
-
-most-by : (b : Bool) (a k n : ℕ) → a ≤ k + suc n → cond b a k ≤ k + suc n
-most-by true a k n h = h
-most-by false a k n h = omega arith
-
-free-most : (t : List ℕ) (k n : ℕ) → freeFrom t k n ≤ k + n
-unfolding freeFrom
-free-most t k zero = omega arith
-free-most t k (suc n) = most-by (live (slot k t)) (freeFrom t (suc k) n) k n (omega (arith, free-most t (suc k) n))
 
 pub slot-low : (r : Inserted) (x : Session) (t : List ℕ) (k : ℕ) → r ≡ insertAnswer x t → r ≡ Slot k → k < 2 ^ 32
 slot-low r x t k e h =

@@ -105,7 +105,7 @@ most-by : (b : Bool) (a k n : ℕ) → a ≤ k + suc n → cond b a k ≤ k + su
 most-by true a k n h = h
 most-by false a k n h = omega arith
 
-free-most : (t : List ℕ) (k n : ℕ) → freeFrom t k n ≤ k + n
+pub free-most : (t : List ℕ) (k n : ℕ) → freeFrom t k n ≤ k + n
 unfolding freeFrom
 free-most t k zero = omega arith
 free-most t k (suc n) = most-by (live (slot k t)) (freeFrom t (suc k) n) k n (omega (arith, free-most t (suc k) n))
