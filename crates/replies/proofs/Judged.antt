@@ -49,18 +49,18 @@ not-false : (b : Bool) → not b ≡ false → b ≡ true
 not-false true h = refl
 not-false false h = absurd (false≢true (sym h))
 
-right-size : (secret p : List ℕ) (x : Search) → onFirst (wrongMac secret p) x ≡ false → found x ≡ true → sizeOf x ≡ 18
+right-size : (auth secret p : List ℕ) (x : Search) → onFirst (wrongMac auth secret p) x ≡ false → found x ≡ true → sizeOf x ≡ 18
 unfolding wrongMac
-right-size secret p (At a) h g = eqb-true (a .size) 18 (not-false (eqb (a .size) 18) (neither _ _ h .0))
-right-size secret p Missing h g = absurd (false≢true g)
+right-size auth secret p (At a) h g = eqb-true (a .size) 18 (not-false (eqb (a .size) 18) (neither _ _ h .0))
+right-size auth secret p Missing h g = absurd (false≢true g)
 
-pub mac-eighteen : (secret p : List ℕ) → badMac secret p ≡ false → any (kindIs 80) (attributes (areaOf p)) ≡ true → sizeOf (firstOf (kindIs 80) (attributes (areaOf p))) ≡ 18
+pub mac-eighteen : (auth secret p : List ℕ) → badMac auth secret p ≡ false → any (kindIs 80) (attributes (areaOf p)) ≡ true → sizeOf (firstOf (kindIs 80) (attributes (areaOf p))) ≡ 18
 unfolding badMac
-mac-eighteen secret p h g =
+mac-eighteen auth secret p h g =
     let both = neither _ _ h in
     let once : countOf (kindIs 80) (attributes (areaOf p)) ≤ 1 = ltb-false 1 (countOf (kindIs 80) (attributes (areaOf p))) (both .0) in
-    right-size secret p (firstOf (kindIs 80) (attributes (areaOf p))) (sym (only (kindIs 80) (wrongMac secret p) (attributes (areaOf p)) once) ∙ both .1) g
+    right-size auth secret p (firstOf (kindIs 80) (attributes (areaOf p))) (sym (only (kindIs 80) (wrongMac auth secret p) (attributes (areaOf p)) once) ∙ both .1) g
 
 -- the reply to a request that D5 and D6's first part leave is no longer than the request
-pub judged-fits : (secret p : List ℕ) (n : ℕ) (c : Cause) (v : ℕ) → Sized p n → badMac secret p ≡ false → stampOf (areaOf p) ≡ Usable v → replyLength p c ≤ n
-judged-fits secret p n c v sized right stamp = reply-fits p n c sized (stamp-six (areaOf p) v stamp) (mac-eighteen secret p right)
+pub judged-fits : (auth secret p : List ℕ) (n : ℕ) (c : Cause) (v : ℕ) → Sized p n → badMac auth secret p ≡ false → stampOf (areaOf p) ≡ Usable v → replyLength p c ≤ n
+judged-fits auth secret p n c v sized right stamp = reply-fits p n c sized (stamp-six (areaOf p) v stamp) (mac-eighteen auth secret p right)

@@ -1,6 +1,6 @@
 // The reply to a request: what stands where is in parts.rt, the signatures in seal.rt.
 mod parts; // parts.rt: head and attributes
-mod seal; // seal.rt: the signatures
+pub mod seal; // seal.rt: the signatures
 
 ghost use mathlib.Core.Path.{_≡_};
 ghost use Prim.Native.Nat.{_≤_};

@@ -1,3 +1,4 @@
 pub mod Forms
 pub mod Macs
 pub mod Verdicts
+pub mod Bounds

@@ -47,26 +47,26 @@ on-found : (P : Search → Type 0) (z x : Search) → z ≡ x → found z ≡ tr
 on-found P z (At a) e h f = f a e
 on-found P z Missing e h f = absurd (false≢true (sym (ap found e) ∙ h))
 
-module _ (secret p : List ℕ) (f : Flags) (count ends sizes : List ℕ) (surveyed : Surveyed (areaOf p) (codeOf p) f count ends sizes) where
+module _ (auth secret p : List ℕ) (f : Flags) (count ends sizes : List ℕ) (surveyed : Surveyed (areaOf p) (codeOf p) f count ends sizes) where
   first : Search
   first = firstOf (kindIs 80) (attributes (areaOf p))
 
   known : Counted (attributes (areaOf p)) 80 count ends sizes
   known = surveyed .types 80 (lit< tt) (λ e. omega arith)
 
-  once : countOf (kindIs 80) (attributes (areaOf p)) ≤ 1 → badMac secret p ≡ onFirst (wrongMac secret p) first
+  once : countOf (kindIs 80) (attributes (areaOf p)) ≤ 1 → badMac auth secret p ≡ onFirst (wrongMac auth secret p) first
   unfolding badMac first
-  once h = rw (le-ltb _ _ h) (only (kindIs 80) (wrongMac secret p) (attributes (areaOf p)) h)
+  once h = rw (le-ltb _ _ h) (only (kindIs 80) (wrongMac auth secret p) (attributes (areaOf p)) h)
 
   -- no type 80
-  pub mac-none : getD count 80 0 ≡ 0 → false ≡ badMac secret p
+  pub mac-none : getD count 80 0 ≡ 0 → false ≡ badMac auth secret p
   unfolding first
   mac-none e =
       let none = two-none (countOf (kindIs 80) (attributes (areaOf p))) (sym (known .number) ∙ e) in
-      sym (once (omega arith) ∙ on-missing (wrongMac secret p) first (none-any (kindIs 80) (attributes (areaOf p)) none))
+      sym (once (omega arith) ∙ on-missing (wrongMac auth secret p) first (none-any (kindIs 80) (attributes (areaOf p)) none))
 
   -- more than one
-  pub mac-more : (getD count 80 0 ≡ 0 → ⊥) → (getD count 80 0 ≡ 1 → ⊥) → true ≡ badMac secret p
+  pub mac-more : (getD count 80 0 ≡ 0 → ⊥) → (getD count 80 0 ≡ 1 → ⊥) → true ≡ badMac auth secret p
   unfolding badMac
   mac-more h g =
       let more : 1 < countOf (kindIs 80) (attributes (areaOf p)) = two-more _ (λ e. h (known .number ∙ e)) (λ e. g (known .number ∙ e)) in
@@ -83,11 +83,11 @@ module _ (secret p : List ℕ) (f : Flags) (count ends sizes : List ℕ) (survey
   at-most e = let n = two-one (countOf (kindIs 80) (attributes (areaOf p))) (sym (known .number) ∙ e) in omega arith
 
   -- of another length
-  pub mac-size : getD count 80 0 ≡ 1 → (getD sizes 80 0 ≡ 18 → ⊥) → true ≡ badMac secret p
+  pub mac-size : getD count 80 0 ≡ 1 → (getD sizes 80 0 ≡ 18 → ⊥) → true ≡ badMac auth secret p
   unfolding first wrongMac
   mac-size e h =
       sym (once (at-most e)
-      ∙ one e (λ z. onFirst (wrongMac secret p) z ≡ true)
+      ∙ one e (λ z. onFirst (wrongMac auth secret p) z ≡ true)
       (λ a i. let ne : a .size ≡ 18 → ⊥ = λ k. h (known .size ∙ ap sizeOf i ∙ k) in rw (ne-eqb (a .size) 18 ne)))
 
   module _ (n end : ℕ) (sized : Sized p n) (e : getD count 80 0 ≡ 1) (size : getD sizes 80 0 ≡ 18) (at : end ≡ getD ends 80 0) where
@@ -109,11 +109,11 @@ module _ (secret p : List ℕ) (f : Flags) (count ends sizes : List ℕ) (survey
     mac-high = one e (λ z. end + 4 + 16 ≤ n) (λ a i. let q = placed a i in omega arith)
 
     -- of length 18: its value decides; r is what the comparison says
-    pub mac-value : (z : List ℕ) (r : Bool) → z ≡ replicate 16 0 → r ≡ equalBytes (part (end + 4) 16 p) (messageAuthenticator z p n (end + 4) secret) → not r ≡ badMac secret p
-    unfolding first wrongMac valueOf zeros
-    mac-value z r ez er =
+    pub mac-value : (r : Bool) → r ≡ equalBytes (part (end + 4) 16 p) (messageAuthenticator auth p n (end + 4) secret) → not r ≡ badMac auth secret p
+    unfolding first wrongMac valueOf
+    mac-value r er =
         sym (once (at-most e)
-        ∙ one e (λ x. onFirst (wrongMac secret p) x ≡ not r)
+        ∙ one e (λ x. onFirst (wrongMac auth secret p) x ≡ not r)
         (λ a i.
         let is = sized .is in
         let q = placed a i in
@@ -121,4 +121,9 @@ module _ (secret p : List ℕ) (f : Flags) (count ends sizes : List ℕ) (survey
         let w : 22 + a .at ≡ end + 4 = omega arith in
         let v : part (a .at + 2) 16 (areaOf p) ≡ part (end + 4) 16 p =
         part-part (a .at + 2) 16 20 (lengthOf p - 20) p (rw (← is) (omega arith)) ∙ ap (λ (k : ℕ). part k 16 p) (omega arith) in
-        rw (s, v, w, ← is, er, ez)))
+        rw (s, v, w, ← is, er)))
+
+-- in a request
+pub mac-over-zeros : (z secret p : List ℕ) (r : Bool) → r ≡ badMac z secret p → z ≡ replicate 16 0 → r ≡ badMac zeros secret p
+unfolding zeros
+mac-over-zeros z secret p r h e = rw (← e) h

@@ -65,7 +65,7 @@ module _ (g : Settings) (p : List ℕ) (clock : ℕ) where
   unfolding checkVerdict
   check-unsigned signed h = rw h
 
-  module _ (signed b : Bool) (yes-signed : signed ≡ true) (is : b ≡ badMac (g .secret) p) where
+  module _ (signed b : Bool) (yes-signed : signed ≡ true) (is : b ≡ badMac zeros (g .secret) p) where
     pub check-mac : b ≡ true → Discarded 5 ≡ checkVerdict g signed p clock
     unfolding checkVerdict
     check-mac h = rw (yes-signed, ← is, h)

@@ -39,12 +39,13 @@ pub record Sized (p : List ℕ) (n : ℕ) : Type 0 where
 unfoldable pub signedBy : List ℕ → List ℕ → Bool
 signedBy secret p = equalBytes (authOf p) (authenticator zeros p (lengthOf p) secret)
 
--- D5: type 80 not of length 18, or wrong: its value stands two bytes behind its place, and the area begins at place 20
-unfoldable pub wrongMac : List ℕ → List ℕ → Attribute → Bool
-wrongMac secret p a = not (eqb (a .size) 18) || not (equalBytes (valueOf (areaOf p) a) (messageAuthenticator zeros p (lengthOf p) (22 + a .at) secret))
+-- type 80 not of length 18, or wrong: its value stands two bytes behind its place, and the area begins at place 20.
+-- `auth` stands in the authenticator's place: zeros in a request, the request's authenticator in a reply.
+unfoldable pub wrongMac : List ℕ → List ℕ → List ℕ → Attribute → Bool
+wrongMac auth secret p a = not (eqb (a .size) 18) || not (equalBytes (valueOf (areaOf p) a) (messageAuthenticator auth p (lengthOf p) (22 + a .at) secret))
 
--- D5: more than once, or such a one
-unfoldable pub badMac : List ℕ → List ℕ → Bool
-badMac secret p =
+-- type 80 more than once, or such a one. D5: in a request
+unfoldable pub badMac : List ℕ → List ℕ → List ℕ → Bool
+badMac auth secret p =
     ltb 1 (countOf (kindIs 80) (attributes (areaOf p)))
-    || any (λ a. kindIs 80 a && wrongMac secret p a) (attributes (areaOf p))
+    || any (λ a. kindIs 80 a && wrongMac auth secret p a) (attributes (areaOf p))

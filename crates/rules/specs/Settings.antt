@@ -1,7 +1,10 @@
 -- What a gate is set up with: the secret it shares with the billing server, and its identity (document 01's gate's own address and NAS-Identifier).
 -- Assumes nothing.
+use mathlib.Core.Bool.{Bool, _||_}
 use mathlib.Core.List.{List}
 use Prim.Native.Nat.{ℕ}
+use lib.Dec.{eqb, ltb}
+use lib.ListN.{length}
 
 pub record Settings : Type 0 where
   pub secret : List ℕ
@@ -10,3 +13,11 @@ pub record Settings : Type 0 where
 
 abbrev pub settings : List ℕ → ℕ → List ℕ → Settings
 settings secret address name = record { secret = secret; address = address; name = name }
+
+-- R2: secret not 1..64 bytes
+unfoldable pub badSecret : List ℕ → Bool
+badSecret secret = eqb (length secret) 0 || ltb 64 (length secret)
+
+-- R3: own NAS-Identifier not 1..32 bytes
+unfoldable pub badName : List ℕ → Bool
+badName name = eqb (length name) 0 || ltb 32 (length name)

@@ -11,6 +11,7 @@ use Rattle.stamps.specs.Stamp.{stampOf, stale, skewOf}
 use Rattle.causes.specs.declared.Cause as C
 use Rattle.causes.specs.declared.Cause.the-variants as K
 use Rattle.causes.specs.Causes.{causeOf}
+use Rattle.signing.specs.Signing.{zeros}
 use Rattle.rules.specs.declared.Verdict as D
 use Rattle.rules.specs.declared.Verdict.the-variants.{Discarded, Stale, Nak, Passed}
 use Rattle.rules.specs.Packet.{codeOf, areaOf}
@@ -45,7 +46,7 @@ stampVerdict g p clock (Usable v) = cond (stale v clock) (Stale (skewOf v clock)
 unfoldable pub checkVerdict : Settings → Bool → List ℕ → ℕ → D.Verdict
 checkVerdict g signed p clock =
     cond signed
-    (cond (badMac (g .secret) p) (Discarded 5)
+    (cond (badMac zeros (g .secret) p) (Discarded 5)
     (stampVerdict g p clock (stampOf (areaOf p))))
     (Discarded 4)
 

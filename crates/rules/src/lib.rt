@@ -1,5 +1,6 @@
 // The verdict on a request before any session is looked at.
-mod mac; // mac.rt: D5
+pub mod limits; // limits.rt: R2 and R3
+pub mod mac; // mac.rt: D5
 mod nak; // nak.rt: causes 1 to 6
 
 ghost use mathlib.Core.Path.{_≡_};
@@ -31,7 +32,7 @@ fn request_code(code: u8) -> bool
 }
 
 // D1: fewer than 20 bytes given; Length below 20, above 4,096 or above the bytes given.
-fn bad_length(p: &[u8]) -> bool
+pub fn bad_length(p: &[u8]) -> bool
     ensures { λ r. ⌜ r ≡ badLength (now (p .entry)) ⌝ }
 {
     if p.len() < 20 {
@@ -65,7 +66,7 @@ pub fn form(p: &[u8]) -> u8
 }
 
 // The Length of a packet that does not meet D1.
-fn sized(p: &[u8]) -> usize
+pub fn sized(p: &[u8]) -> usize
     requires { ⌜ badLength (now p) ≡ false ⌝ }
     ensures { λ r. ⌜ Sized (now (p .entry)) r ⌝ }
 {
@@ -99,7 +100,7 @@ pub fn check(
     ensures { λ r. ⌜ r ≡ checkVerdict (settings (now (secret .entry)) address (now (name .entry))) «signed» (now (p .entry)) clock ⌝ }
 {
     if signed {
-        if mac::bad_mac(p, n, secret, f, count, ends, sizes) {
+        if mac::bad_request_mac(p, n, secret, f, count, ends, sizes) {
             return Verdict::Discarded(5);
         }
         let s = octets::slice(p, 20, n - 20);

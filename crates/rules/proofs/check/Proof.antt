@@ -26,7 +26,7 @@ returns-4 c =
     let stamp = skew .before .before .before .before in
     let mac = stamp .before .before .before .before in
     let start = mac .before .before .before .before .before in
-    check-fresh _ _ _ _ _ (search needs) (mac .bad-mac .ensures) (search needs) _ _ (area-of _ _ _ (stamp .before .before .slice .ensures) (start .pre .0)) (stamp .stamp-of .ensures) _ (search needs) _ (c .before .before .stale .ensures) (search needs) _ _ (skew .skew .ensures) (search needs) _ (c .fresh .ensures)
+    check-fresh _ _ _ _ _ (search needs) (mac .bad-request-mac .ensures) (search needs) _ _ (area-of _ _ _ (stamp .before .before .slice .ensures) (start .pre .0)) (stamp .stamp-of .ensures) _ (search needs) _ (c .before .before .stale .ensures) (search needs) _ _ (skew .skew .ensures) (search needs) _ (c .fresh .ensures)
 
 returns-5 : tie.Need-returns-5
 returns-5 c = search (needs, check-unsigned)

@@ -1,6 +1,5 @@
 -- `rules::mac::bad_mac` meets its contract: by how many there are, then by length, then by the value where it lies.
 -- Assumes nothing.
-use mathlib.Core.Path.{refl}
 use borrow.Author.Needs.{needs}
 use Rattle.rules.proofs.Macs.{mac-none, mac-more, mac-size, mac-low, mac-high, mac-value}
 use Rattle.rules.proofs.mac.bad_mac.Statement.{statement}
@@ -16,7 +15,7 @@ returns-3 : tie.Need-returns-3
 returns-3 c = search (needs, mac-size)
 
 mac-right-requires : tie.Need-mac-right-requires
-mac-right-requires c κs = (search (needs, mac-low), search (needs, mac-high), search needs, refl)
+mac-right-requires c κs = (search (needs, mac-low), search (needs, mac-high), search needs, search needs)
 
 returns-4 : tie.Need-returns-4
 returns-4 c = search (needs, mac-value)
@@ -32,7 +31,6 @@ bad-mac-spec =
     returns-3
     (λ c. search needs)
     (λ c κs. search needs)
-    (λ c. search needs)
     (λ c. search needs)
     mac-right-requires
     returns-4)

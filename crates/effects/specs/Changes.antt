@@ -1,0 +1,52 @@
+-- What a request does to the sessions it names (document 01: "All matching sessions are changed", "A CoA writes only the fields that it names").
+-- The request is told by its code and the area of its attributes.
+-- Assumes nothing.
+use mathlib.Core.Bool.{Bool, cond}
+use mathlib.Core.List.{List}
+use Prim.Native.Nat.{ℕ, zero, suc, _+_, _-_}
+use lib.Dec.{eqb}
+use Rattle.octets.specs.Numbers.{be}
+use Rattle.attributes.specs.declared.Search.{Search}
+use Rattle.attributes.specs.declared.Search.the-variants.{At, Missing}
+use Rattle.attributes.specs.Attributes.{attributes, firstOf, kindIs}
+use Rattle.slots.specs.Slot.{slotCount}
+use Rattle.sessions.specs.declared.Change.{Change}
+use Rattle.sessions.specs.declared.Change.the-variants.{End, Alter}
+use Rattle.sessions.specs.declared.Alteration.{Alteration}
+use Rattle.sessions.specs.declared.Number.{Number}
+use Rattle.sessions.specs.declared.Number.the-variants.{Keep, Set}
+use Rattle.sessions.specs.declared.Text.{Text}
+use Rattle.sessions.specs.declared.Text.the-variants.{Same, Value}
+use Rattle.sessions.specs.Change.{changeAt}
+use Rattle.effects.specs.Matching.{matchesIn}
+
+-- the four bytes of a value as a number, and where a value lies; nothing where there is no such attribute
+abbrev pub numberAt : List ℕ → Search → Number
+numberAt area (At a) = Set (be (a .at + 2) 4 area)
+numberAt area Missing = Keep
+
+abbrev pub textAt : Search → Text
+textAt (At a) = Value (a .at + 2) (a .size - 2)
+textAt Missing = Same
+
+-- what a CoA names: Session-Timeout (27), Idle-Timeout (28), Filter-Id (11)
+unfoldable pub alterationOf : List ℕ → Alteration
+alterationOf area =
+    record {
+      timeout = numberAt area (firstOf (kindIs 27) (attributes area));
+      idle = numberAt area (firstOf (kindIs 28) (attributes area));
+      filter = textAt (firstOf (kindIs 11) (attributes area));
+    }
+
+-- a Disconnect (code 40) ends the sessions, a CoA alters them
+unfoldable pub changeOf : ℕ → List ℕ → Change
+changeOf code area = cond (eqb code 40) End (Alter (alterationOf area))
+
+-- the table with each of its first k slots that f names changed
+unfoldable pub changeWhere : List ℕ → Change → (ℕ → Bool) → ℕ → List ℕ → List ℕ
+changeWhere area c f zero t = t
+changeWhere area c f (suc k) t = cond (f k) (changeAt area c k (changeWhere area c f k t)) (changeWhere area c f k t)
+
+-- all matching sessions are changed
+unfoldable pub changeMatching : ℕ → List ℕ → List ℕ → List ℕ
+changeMatching code area t = changeWhere area (changeOf code area) (matchesIn area t) (slotCount t) t

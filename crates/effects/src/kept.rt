@@ -1,0 +1,85 @@
+// What is read off the pass over the attributes: where the first value of a type lies.
+ghost use mathlib.Core.Path.{_≡_};
+ghost use mathlib.Core.List.{_++_};
+ghost use Prim.Native.Nat.{_+_, _-_, _≤_, _<_};
+ghost use Rattle.slots.specs.Matching.{listed};
+ghost use Rattle.effects.specs.Kept.{keptPlace, keptSize, ifKept, keptNumber, keptText};
+
+fn wide(x: u8) -> usize
+    ensures { λ r. ⌜ (r ≡ x) × (r < 256) ⌝ }
+{
+    x as usize
+}
+
+// a - b, and 0 where b is larger.
+fn less(a: usize, b: usize) -> usize
+    ensures { λ r. ⌜ (r ≡ a - b) × (r ≤ a) ⌝ }
+{
+    if a < b {
+        return 0;
+    }
+    a - b
+}
+
+// Where the first value of this type lies.
+fn place(ends: &[u16; 256], sizes: &[u8; 256], kind: u8) -> usize
+    ensures { λ r. ⌜ r ≡ keptPlace kind (now (ends .entry)) (now (sizes .entry)) ⌝ }
+{
+    less(survey::kept::end_of(ends, kind), wide(sizes[kind as usize])) + 2
+}
+
+// How long it is.
+fn size(sizes: &[u8; 256], kind: u8) -> usize
+    ensures { λ r. ⌜ r ≡ keptSize kind (now (sizes .entry)) ⌝ }
+{
+    less(wide(sizes[kind as usize]), 2)
+}
+
+// The criteria c, and one more where the type is there.
+pub fn with(
+    c: slots::Criteria,
+    field: slots::Field,
+    kind: u8,
+    count: &[u8; 256],
+    ends: &[u16; 256],
+    sizes: &[u8; 256],
+) -> slots::Criteria
+    requires { ⌜ c .count < 5 ⌝ }
+    ensures { λ r. ⌜ (listed r ≡ listed c ++ ifKept field kind (now (count .entry)) (now (ends .entry)) (now (sizes .entry))) × (r .count ≤ c .count + 1) ⌝ }
+{
+    if survey::kept::has(count, kind) {
+        let at = place(ends, sizes, kind);
+        let size = size(sizes, kind);
+        let n = c.count;
+        let mut list = c.list;
+        list[n] = slots::Criterion { field, at, size };
+        return slots::Criteria { count: n + 1, list };
+    }
+    c
+}
+
+// A number that a CoA sets.
+pub fn number(
+    s: &[u8],
+    kind: u8,
+    count: &[u8; 256],
+    ends: &[u16; 256],
+    sizes: &[u8; 256],
+) -> sessions::Number
+    ensures { λ r. ⌜ r ≡ keptNumber (now (s .entry)) kind (now (count .entry)) (now (ends .entry)) (now (sizes .entry)) ⌝ }
+{
+    if survey::kept::has(count, kind) {
+        return sessions::Number::Set(octets::be32(s, place(ends, sizes, kind)));
+    }
+    sessions::Number::Keep
+}
+
+// A text that a CoA sets.
+pub fn text(kind: u8, count: &[u8; 256], ends: &[u16; 256], sizes: &[u8; 256]) -> sessions::Text
+    ensures { λ r. ⌜ r ≡ keptText kind (now (count .entry)) (now (ends .entry)) (now (sizes .entry)) ⌝ }
+{
+    if survey::kept::has(count, kind) {
+        return sessions::Text::Value(place(ends, sizes, kind), size(sizes, kind));
+    }
+    sessions::Text::Same
+}

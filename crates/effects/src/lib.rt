@@ -1,0 +1,68 @@
+// What a request does to the sessions: the criteria by which it names them, and the change.
+mod kept; // kept.rt: what is read off the pass over the attributes
+
+ghost use mathlib.Core.Path.{_≡_};
+ghost use Rattle.slots.specs.Matching.{listed};
+ghost use Rattle.survey.specs.Survey.{Surveyed};
+ghost use Rattle.effects.specs.Kept.{keptCriteria};
+ghost use Rattle.effects.specs.Changes.{alterationOf, changeOf};
+
+// The criteria of a request, from what the pass over its attributes kept: one for each of 1, 5, 8, 31, 44 that it has.
+pub fn criteria(count: &[u8; 256], ends: &[u16; 256], sizes: &[u8; 256]) -> slots::Criteria
+    ensures { λ r. ⌜ listed r ≡ keptCriteria (now (count .entry)) (now (ends .entry)) (now (sizes .entry)) ⌝ }
+{
+    let none = slots::Criterion {
+        field: slots::Field::UserName,
+        at: 0,
+        size: 0,
+    };
+    let c = slots::Criteria {
+        count: 0,
+        list: [none; 5],
+    };
+    let c = kept::with(c, slots::Field::UserName, 1, count, ends, sizes);
+    let c = kept::with(c, slots::Field::NasPort, 5, count, ends, sizes);
+    let c = kept::with(c, slots::Field::FramedAddress, 8, count, ends, sizes);
+    let c = kept::with(c, slots::Field::CallingStation, 31, count, ends, sizes);
+    kept::with(c, slots::Field::SessionId, 44, count, ends, sizes)
+}
+
+// What a CoA alters.
+fn alteration(
+    s: &[u8],
+    code: u8,
+    f: survey::Flags,
+    count: &[u8; 256],
+    ends: &[u16; 256],
+    sizes: &[u8; 256],
+) -> sessions::Alteration
+    requires { ⌜ Surveyed (now s) code f (now count) (now ends) (now sizes) ⌝ }
+    ensures { λ r. ⌜ r ≡ alterationOf (now (s .entry)) ⌝ }
+{
+    let timeout = kept::number(s, 27, count, ends, sizes);
+    let idle = kept::number(s, 28, count, ends, sizes);
+    let filter = kept::text(11, count, ends, sizes);
+    sessions::Alteration {
+        timeout,
+        idle,
+        filter,
+    }
+}
+
+// What happens to the sessions that a request of this code names.
+pub fn change(
+    s: &[u8],
+    code: u8,
+    f: survey::Flags,
+    count: &[u8; 256],
+    ends: &[u16; 256],
+    sizes: &[u8; 256],
+) -> sessions::Change
+    requires { ⌜ Surveyed (now s) code f (now count) (now ends) (now sizes) ⌝ }
+    ensures { λ r. ⌜ r ≡ changeOf code (now (s .entry)) ⌝ }
+{
+    if code == 40 {
+        return sessions::Change::End;
+    }
+    sessions::Change::Alter(alteration(s, code, f, count, ends, sizes))
+}

@@ -1,0 +1,78 @@
+// A whole request: refused, discarded, or answered.
+mod passed; // passed.rt: what follows D1 to D4
+
+ghost use mathlib.Core.Path.{_≡_};
+ghost use Prim.Native.Nat.{_≤_};
+ghost use lib.ListN.{length};
+ghost use Rattle.rules.specs.Settings.{settings};
+ghost use Rattle.rules.specs.Discards.{signedBy};
+ghost use Rattle.rules.specs.Verdict.{verdictOf};
+ghost use Rattle.answers.specs.Replies.{replyAs};
+ghost use Rattle.handler.specs.Refusals.{refusalOf};
+ghost use Rattle.handler.specs.Handle.{answerOf, tableAs, handleAnswer, handleTable, handleReply};
+
+// R1 to R4, the lowest that applies; 0 where none does.
+fn refusal(t: &[u8], secret: &[u8], address: u32, name: &[u8], reply: &[u8]) -> u8
+    ensures { λ r. ⌜ r ≡ refusalOf (settings (now (secret .entry)) address (now (name .entry))) (now (t .entry)) (now (reply .entry)) ⌝ }
+{
+    if slots::slot_count(t) == 0 {
+        return 1;
+    }
+    if rules::limits::bad_secret(secret) {
+        return 2;
+    }
+    if rules::limits::bad_name(name) {
+        return 3;
+    }
+    if reply.len() < 4096 {
+        return 4;
+    }
+    0
+}
+
+// A request that is not refused.
+fn judged(
+    t: &mut [u8],
+    secret: &[u8],
+    address: u32,
+    name: &[u8],
+    reply: &mut [u8],
+    p: &[u8],
+    clock: u32,
+) -> answers::Answer
+    requires { ⌜ 4096 ≤ length (now reply) ⌝ }
+    ensures { λ r. ⌜ r ≡ answerOf (now (p .entry)) (now (t .entry)) (verdictOf (settings (now (secret .entry)) address (now (name .entry))) (signedBy (now (secret .entry)) (now (p .entry))) (now (p .entry)) clock) ⌝ }
+    ensures { λ r. ⌜ now (t .exit) ≡ tableAs (now (p .entry)) (now (t .entry)) r ⌝ }
+    ensures { λ r. ⌜ now (reply .exit) ≡ replyAs (now (secret .entry)) (now (p .entry)) (now (reply .entry)) r ⌝ }
+{
+    let d = rules::form(p);
+    if d != 0 {
+        return answers::Answer::Discarded(d);
+    }
+    let n = rules::length_of(p);
+    if signing::request_signed(p, n, secret) {
+        return passed::signed(t, n, secret, address, name, reply, p, clock);
+    }
+    answers::Answer::Discarded(4)
+}
+
+// Handles the request p: the answer, the table and the reply buffer after it.
+pub fn handle(
+    t: &mut [u8],
+    secret: &[u8],
+    address: u32,
+    name: &[u8],
+    reply: &mut [u8],
+    p: &[u8],
+    clock: u32,
+) -> answers::Answer
+    ensures { λ r. ⌜ r ≡ handleAnswer (settings (now (secret .entry)) address (now (name .entry))) (now (t .entry)) (now (reply .entry)) (now (p .entry)) clock ⌝ }
+    ensures { λ r. ⌜ now (t .exit) ≡ handleTable (settings (now (secret .entry)) address (now (name .entry))) (now (t .entry)) (now (reply .entry)) (now (p .entry)) clock ⌝ }
+    ensures { λ r. ⌜ now (reply .exit) ≡ handleReply (settings (now (secret .entry)) address (now (name .entry))) (now (t .entry)) (now (reply .entry)) (now (p .entry)) clock ⌝ }
+{
+    let r = refusal(t, secret, address, name, reply);
+    if r != 0 {
+        return answers::Answer::Refused(r);
+    }
+    judged(t, secret, address, name, reply, p, clock)
+}

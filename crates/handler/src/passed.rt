@@ -1,0 +1,73 @@
+// A rightly signed request: D5, D6 and the causes, then the sessions.
+ghost use mathlib.Core.Path.{_≡_};
+ghost use mathlib.Core.Bool.{true};
+ghost use Prim.Native.Nat.{_≤_};
+ghost use lib.ListN.{length};
+ghost use Rattle.rules.specs.Settings.{settings};
+ghost use Rattle.rules.specs.Discards.{formOf, Sized};
+ghost use Rattle.rules.specs.Verdict.{checkVerdict};
+ghost use Rattle.rules.specs.declared.Verdict.the-variants.{Passed};
+ghost use Rattle.rules.specs.Packet.{codeOf, areaOf};
+ghost use Rattle.survey.specs.Survey.{Surveyed};
+ghost use Rattle.answers.specs.Commit.{countAnswer};
+ghost use Rattle.answers.specs.Replies.{replyAs};
+ghost use Rattle.effects.specs.Matching.{matchCount};
+ghost use Rattle.handler.specs.Handle.{answerOf, tableAs};
+
+// D5, D6, causes 1 to 7, else ACK.
+pub fn signed(
+    t: &mut [u8],
+    n: usize,
+    secret: &[u8],
+    address: u32,
+    name: &[u8],
+    reply: &mut [u8],
+    p: &[u8],
+    clock: u32,
+) -> answers::Answer
+    requires { ⌜ Sized (now p) n × (formOf (now p) ≡ 0) × (4096 ≤ length (now reply)) ⌝ }
+    ensures { λ r. ⌜ r ≡ answerOf (now (p .entry)) (now (t .entry)) (checkVerdict (settings (now (secret .entry)) address (now (name .entry))) true (now (p .entry)) clock) ⌝ }
+    ensures { λ r. ⌜ now (t .exit) ≡ tableAs (now (p .entry)) (now (t .entry)) r ⌝ }
+    ensures { λ r. ⌜ now (reply .exit) ≡ replyAs (now (secret .entry)) (now (p .entry)) (now (reply .entry)) r ⌝ }
+{
+    let mut count = [0u8; 256];
+    let mut ends = [0u16; 256];
+    let mut sizes = [0u8; 256];
+    let s = octets::slice(p, 20, n - 20);
+    let f = survey::survey(s, p[0], &mut count, &mut ends, &mut sizes);
+    match rules::check(
+        p,
+        n,
+        true,
+        secret,
+        address,
+        name,
+        clock,
+        f,
+        &count,
+        &ends,
+        &sizes,
+    ) {
+        rules::Verdict::Discarded(d) => answers::Answer::Discarded(d),
+        rules::Verdict::Stale(skew) => answers::Answer::Stale(skew),
+        rules::Verdict::Nak(cause, skew) => {
+            answers::nak(reply, p, n, secret, cause, skew, f, &count, &ends, &sizes)
+        }
+        rules::Verdict::Passed(skew) => {
+            let marks = slots::mark_all(t, s, effects::criteria(&count, &ends, &sizes));
+            answers::commit(
+                t,
+                &marks,
+                reply,
+                p,
+                n,
+                secret,
+                skew,
+                f,
+                &count,
+                &ends,
+                &sizes,
+            )
+        }
+    }
+}

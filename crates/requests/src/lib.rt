@@ -1,0 +1,53 @@
+// The other side of the gate: the request writer, and the check of a reply.
+ghost use mathlib.Core.Path.{_≡_};
+ghost use Rattle.requests.specs.Writer.{draft, writeAnswer, writeOutput};
+ghost use Rattle.requests.specs.ReplyCheck.{checkAnswer};
+
+mod reading; // reading.rt: V1 to V6
+mod writing; // writing.rt: a request that is not refused
+
+// The length of the request written, or document 01's refusal number.
+pub enum Written {
+    Done(usize),
+    NotWritten(u8),
+}
+
+// A right reply, document 01's V number, or its refusal number.
+pub enum Checked {
+    Right,
+    Failed(u8),
+    NotChecked(u8),
+}
+
+// Writes a request of these attributes, and type 80 behind them if asked for.
+pub fn write_request(
+    code: u32,
+    identifier: u8,
+    given: &[u8],
+    add: bool,
+    secret: &[u8],
+    out: &mut [u8],
+) -> Written
+    ensures { λ r. ⌜ r ≡ writeAnswer (now (secret .entry)) (now (out .entry)) (draft code identifier (now (given .entry)) «add») ⌝ }
+    ensures { λ r. ⌜ now (out .exit) ≡ writeOutput (now (secret .entry)) (now (out .entry)) (draft code identifier (now (given .entry)) «add») ⌝ }
+{
+    let n = writing::refusal(code, identifier, given, add, secret, out);
+    if n != 0 {
+        return Written::NotWritten(n);
+    }
+    Written::Done(writing::put_request(code as u8, identifier, given, add, secret, out))
+}
+
+// Checks a reply against its request.
+pub fn check_reply(secret: &[u8], request: &[u8], reply: &[u8]) -> Checked
+    ensures { λ r. ⌜ r ≡ checkAnswer (now (secret .entry)) (now (request .entry)) (now (reply .entry)) ⌝ }
+{
+    if rules::limits::bad_secret(secret) {
+        return Checked::NotChecked(2);
+    }
+    let v = reading::failure(secret, request, reply);
+    if v != 0 {
+        return Checked::Failed(v);
+    }
+    Checked::Right
+}
