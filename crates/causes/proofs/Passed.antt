@@ -55,14 +55,31 @@ fails : (p : Attribute → Bool) (l : List Attribute) → any p l ≡ false → 
 fails p [] h a m = absurd (List·Memᴰ·not-nil m)
 fails p (b ∷ l) h a m = by-head p a b l h (λ g n. fails p l g a n) (List·Memᴰ·cases-cons m)
 
+-- ---- no length that a type may not have
+
+module _ (s : List ℕ) (misfit : any misfitting (attributes s) ≡ false) (a : Attribute) (m : List·Memᴰ a (attributes s)) where
+  six-of : member (a .kind) sixTypes ≡ true → a .size ≡ 6
+  unfolding misfitOf
+  six-of h = eqb-true _ _ (not-true _ (and-first _ _ h (or-left _ (member (a .kind) filledTypes && eqb (a .size) 2) (fails misfitting (attributes s) misfit a m))))
+
+  filled-of : member (a .kind) filledTypes ≡ true → a .size ≡ 2 → ⊥
+  unfolding misfitOf
+  filled-of h = eqb-false _ _ (and-first _ _ h (or-right (member (a .kind) sixTypes && not (eqb (a .size) 6)) _ (fails misfitting (attributes s) misfit a m)))
+
+-- the first of a type that must have length 6 has it
+pub first-six : (s : List ℕ) (k : ℕ) (a : Attribute) → any misfitting (attributes s) ≡ false → firstOf (kindIs k) (attributes s) ≡ At a → member k sixTypes ≡ true → a .size ≡ 6
+first-six s k a misfit e h =
+    let kind : a .kind ≡ k = eqb-true _ _ (first-passes (kindIs k) (attributes s) a e) in
+    six-of s misfit a (first-member (kindIs k) (attributes s) a e) (ap (λ (j : ℕ). member j sixTypes) kind ∙ h)
+
 -- ---- no cause
 
 module _ (code address : ℕ) (name s : List ℕ) (q : causeOf code address name s ≡ C.NoCause) where
-  repeated : found (firstRepeated none (attributes s)) ≡ false
+  pub repeated : found (firstRepeated none (attributes s)) ≡ false
   unfolding invalid
   repeated = or-left _ (any misfitting (attributes s)) (exactly C.NoCause code address name s .0 q .2)
 
-  misfit : any misfitting (attributes s) ≡ false
+  pub misfit : any misfitting (attributes s) ≡ false
   unfolding invalid
   misfit = or-right (found (firstRepeated none (attributes s))) _ (exactly C.NoCause code address name s .0 q .2)
 
@@ -75,12 +92,10 @@ module _ (code address : ℕ) (name s : List ℕ) (q : causeOf code address name
     supports = not-true _ (fails (unsupportedIn code) (attributes s) (exactly C.NoCause code address name s .0 q .0) a m)
 
     pub six : member (a .kind) sixTypes ≡ true → a .size ≡ 6
-    unfolding misfitOf
-    six h = eqb-true _ _ (not-true _ (and-first _ _ h (or-left _ (member (a .kind) filledTypes && eqb (a .size) 2) (fails misfitting (attributes s) misfit a m))))
+    six h = six-of s misfit a m h
 
     pub filled : member (a .kind) filledTypes ≡ true → a .size ≡ 2 → ⊥
-    unfolding misfitOf
-    filled h = eqb-false _ _ (and-first _ _ h (or-right (member (a .kind) sixTypes && not (eqb (a .size) 6)) _ (fails misfitting (attributes s) misfit a m)))
+    filled h = filled-of s misfit a m h
 
     owned : (k : ℕ) (own : List ℕ) → differing s k own a ≡ false → a .kind ≡ k → valueOf s a ≡ own
     owned k own h e = equal-true _ _ (not-true _ (and-first _ _ (eq-eqb _ _ e) h))
@@ -110,7 +125,7 @@ module _ (code address : ℕ) (name s : List ℕ) (q : causeOf code address name
     kind = eqb-true _ _ (first-passes (kindIs k) (attributes s) a e)
 
     pub six-first : member k sixTypes ≡ true → a .size ≡ 6
-    six-first h = six a (first-member (kindIs k) (attributes s) a e) (ap (λ (j : ℕ). member j sixTypes) kind ∙ h)
+    six-first h = first-six s k a misfit e h
 
     pub filled-first : member k filledTypes ≡ true → a .size ≡ 2 → ⊥
     filled-first h = filled a (first-member (kindIs k) (attributes s) a e) (ap (λ (j : ℕ). member j filledTypes) kind ∙ h)

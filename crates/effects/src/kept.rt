@@ -1,12 +1,21 @@
 // What is read off the pass over the attributes: where the first value of a type lies.
 ghost use mathlib.Core.Path.{_≡_};
+ghost use mathlib.Core.Bool.{true};
 ghost use mathlib.Core.List.{_++_};
+ghost use lib.ListN.{length};
 ghost use Prim.Native.Nat.{_+_, _-_, _≤_, _<_};
 ghost use Rattle.slots.specs.Matching.{listed};
+ghost use Rattle.survey.specs.Survey.{seenAt};
 ghost use Rattle.effects.specs.Kept.{keptPlace, keptSize, ifKept, keptNumber, keptText};
 
 fn wide(x: u8) -> usize
     ensures { λ r. ⌜ (r ≡ x) × (r < 256) ⌝ }
+{
+    x as usize
+}
+
+fn wide16(x: u16) -> usize
+    ensures { λ r. ⌜ (r ≡ x) × (r < 65536) ⌝ }
 {
     x as usize
 }
@@ -25,7 +34,7 @@ fn less(a: usize, b: usize) -> usize
 fn place(ends: &[u16; 256], sizes: &[u8; 256], kind: u8) -> usize
     ensures { λ r. ⌜ r ≡ keptPlace kind (now (ends .entry)) (now (sizes .entry)) ⌝ }
 {
-    less(survey::kept::end_of(ends, kind), wide(sizes[kind as usize])) + 2
+    less(wide16(ends[kind as usize]), wide(sizes[kind as usize])) + 2
 }
 
 // How long it is.
@@ -66,6 +75,7 @@ pub fn number(
     ends: &[u16; 256],
     sizes: &[u8; 256],
 ) -> sessions::Number
+    requires { ⌜ ((seenAt (now count) kind ≡ true → keptPlace kind (now ends) (now sizes) + 4 ≤ length (now s))) ⌝ }
     ensures { λ r. ⌜ r ≡ keptNumber (now (s .entry)) kind (now (count .entry)) (now (ends .entry)) (now (sizes .entry)) ⌝ }
 {
     if survey::kept::has(count, kind) {

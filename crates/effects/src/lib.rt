@@ -2,8 +2,11 @@
 mod kept; // kept.rt: what is read off the pass over the attributes
 
 ghost use mathlib.Core.Path.{_≡_};
+ghost use mathlib.Core.Bool.{false};
+ghost use Rattle.attributes.specs.Attributes.{attributes, any};
 ghost use Rattle.slots.specs.Matching.{listed};
 ghost use Rattle.survey.specs.Survey.{Surveyed};
+ghost use Rattle.survey.specs.Types.{misfitting};
 ghost use Rattle.effects.specs.Kept.{keptCriteria};
 ghost use Rattle.effects.specs.Changes.{alterationOf, changeOf};
 
@@ -27,7 +30,7 @@ pub fn criteria(count: &[u8; 256], ends: &[u16; 256], sizes: &[u8; 256]) -> slot
     kept::with(c, slots::Field::SessionId, 44, count, ends, sizes)
 }
 
-// What a CoA alters.
+// What a CoA alters. Its numbers have their length (404 does not apply).
 fn alteration(
     s: &[u8],
     code: u8,
@@ -36,7 +39,7 @@ fn alteration(
     ends: &[u16; 256],
     sizes: &[u8; 256],
 ) -> sessions::Alteration
-    requires { ⌜ Surveyed (now s) code f (now count) (now ends) (now sizes) ⌝ }
+    requires { ⌜ Surveyed (now s) code f (now count) (now ends) (now sizes) × (any misfitting (attributes (now s)) ≡ false) ⌝ }
     ensures { λ r. ⌜ r ≡ alterationOf (now (s .entry)) ⌝ }
 {
     let timeout = kept::number(s, 27, count, ends, sizes);
@@ -58,7 +61,7 @@ pub fn change(
     ends: &[u16; 256],
     sizes: &[u8; 256],
 ) -> sessions::Change
-    requires { ⌜ Surveyed (now s) code f (now count) (now ends) (now sizes) ⌝ }
+    requires { ⌜ Surveyed (now s) code f (now count) (now ends) (now sizes) × (any misfitting (attributes (now s)) ≡ false) ⌝ }
     ensures { λ r. ⌜ r ≡ changeOf code (now (s .entry)) ⌝ }
 {
     if code == 40 {
