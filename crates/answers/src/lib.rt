@@ -1,9 +1,12 @@
 // The answers to a request, and the last move of one that meets no rule before cause 7.
 ghost use mathlib.Core.Path.{_≡_};
+ghost use mathlib.Core.Bool.{false};
 ghost use Prim.Native.Nat.{_≤_};
 ghost use lib.ListN.{length};
 ghost use Rattle.octets.specs.Runs.{write};
+ghost use Rattle.attributes.specs.Attributes.{attributes, any};
 ghost use Rattle.survey.specs.Survey.{Surveyed};
+ghost use Rattle.survey.specs.Types.{misfitting};
 ghost use Rattle.causes.specs.declared.Cause.the-variants.{SessionNotFound, NoCause};
 ghost use Rattle.rules.specs.Packet.{codeOf, areaOf};
 ghost use Rattle.rules.specs.Discards.{formOf, Sized};
@@ -59,7 +62,7 @@ pub fn commit(
     ends: &[u16; 256],
     sizes: &[u8; 256],
 ) -> Answer
-    requires { ⌜ Sized (now p) n × (formOf (now p) ≡ 0) ⌝ }
+    requires { ⌜ Sized (now p) n × (formOf (now p) ≡ 0) × (any misfitting (attributes (areaOf (now p))) ≡ false) ⌝ }
     requires { ⌜ Surveyed (areaOf (now p)) (codeOf (now p)) f (now count) (now ends) (now sizes) ⌝ }
     requires { ⌜ (replyLength (now p) SessionNotFound ≤ 4096) × (replyLength (now p) NoCause ≤ 4096) × (4096 ≤ length (now reply)) ⌝ }
     ensures { λ r. ⌜ r ≡ commitAnswer (now (p .entry)) (now (marks .entry)) (now (t .entry)) skew ⌝ }

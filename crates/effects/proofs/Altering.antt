@@ -1,21 +1,20 @@
 -- The change of a request, from what the pass kept of 27, 28 and 11: the first of each type ends where it stands and has the length it has.
 -- Assumes nothing.
-use mathlib.Core.Path.{_≡_, refl, sym, ap, _∙_}
+use mathlib.Core.Path.{_≡_, refl, sym, _∙_}
 use mathlib.Core.Bool.{Bool, true, false, cond, false≢true}
 use mathlib.Core.List.{List}
-use Prim.Native.Nat.{ℕ, zero, suc, _+_, _-_, _<_, _≤_}
+use Prim.Native.Nat.{ℕ, _+_, _-_, _<_, _≤_}
 use native.Mathlib.Omega.{arith}
 use borrow.Author.Tests.{eq-eqb, ne-eqb}
-use lib.Dec.{eqb, lit<}
+use lib.Dec.{lit<}
 use lib.ListN.{length, getD}
 use Rattle.octets.specs.Numbers.{be}
-use Rattle.attributes.specs.declared.Attribute.{Attribute}
 use Rattle.attributes.specs.declared.Search.{Search}
 use Rattle.attributes.specs.declared.Search.the-variants.{At, Missing}
-use Rattle.attributes.specs.Attributes.{attributes, any, found, firstOf, countOf, kindIs}
+use Rattle.attributes.specs.Attributes.{attributes, any, found, firstOf, kindIs}
 use Rattle.attributes.proofs.Stands.{first-placed}
 use Rattle.survey.specs.declared.Flags.{Flags}
-use Rattle.survey.specs.Survey.{Surveyed, Counted, upToTwo, endOf, sizeOf, seenAt}
+use Rattle.survey.specs.Survey.{Surveyed, endOf, sizeOf, seenAt}
 use Rattle.survey.proofs.Values.{seen-any}
 use Rattle.survey.specs.Types.{member, sixTypes, misfitting}
 use Rattle.causes.proofs.Passed.{first-six}
@@ -26,7 +25,7 @@ use Rattle.sessions.specs.declared.Alteration.{Alteration}
 use Rattle.sessions.specs.declared.Text.{Text}
 use Rattle.sessions.specs.declared.Text.the-variants.{Same, Value}
 use Rattle.effects.specs.Changes.{numberAt, textAt, alterationOf, changeOf}
-use Rattle.effects.specs.Kept.{keptPlace, keptSize, keptNumber, keptText}
+use Rattle.effects.specs.Kept.{keptPlace, keptNumber, keptText}
 
 number-in : (area : List ℕ) (z : Search) (b : Bool) (end size : ℕ) → b ≡ found z → end ≡ endOf z → size ≡ sizeOf z → cond b (Set (be (end - size + 2) 4 area)) Keep ≡ numberAt area z
 number-in area (At a) b end size h e g = let o : end - size ≡ a .at = omega arith in rw (h, o)

@@ -1,2 +1,7 @@
 pub mod Taken
 pub mod Altering
+pub mod Five
+pub mod Asked
+pub mod Marked
+pub mod Outcomes
+pub mod Altered

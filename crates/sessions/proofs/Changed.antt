@@ -65,7 +65,7 @@ module _ (f : ℕ → Bool) (t : List ℕ) (lives : (i : ℕ) → f i ≡ true �
   test-by true m s e l = rw (e, l refl)
   test-by false m s e l = rw e
 
-  named : (k : ℕ) → k < slotCount t → marked (marksAfter f (slotCount t)) t k ≡ f k
+  pub named : (k : ℕ) → k < slotCount t → marked (marksAfter f (slotCount t)) t k ≡ f k
   named k h =
       let c = counted t in
       test-by (f k) _ (slot k t) (mark-at f (slotCount t) k h (omega arith)) (lives k)
