@@ -1,12 +1,12 @@
 -- Commit, from what its calls tell: the change is that of the request, since the slice is its area; the number changed decides between cause 7 and ACK.
 -- Assumes nothing.
-use mathlib.Core.Path.{_≡_, sym, ap, _∙_}
+use mathlib.Core.Path.{_≡_, ap, _∙_}
 use mathlib.Core.Bool.{false}
 use mathlib.Core.List.{List}
 use Prim.Native.Nat.{ℕ, _-_}
 use borrow.Author.Tests.{eq-eqb, ne-eqb}
 use lib.IntN.{ℤ}
-use Rattle.octets.specs.Runs.{part, write}
+use Rattle.octets.specs.Runs.{write}
 use Rattle.attributes.specs.Attributes.{attributes, any}
 use Rattle.survey.specs.Types.{misfitting}
 use Rattle.slots.specs.Slot.{slotCount}
@@ -14,8 +14,6 @@ use Rattle.sessions.specs.declared.Change.{Change}
 use Rattle.sessions.specs.Change.{changeMarked, countMarked}
 use Rattle.causes.specs.declared.Cause.the-variants.{SessionNotFound, NoCause}
 use Rattle.rules.specs.Packet.{codeOf, areaOf}
-use Rattle.rules.specs.Discards.{Sized}
-use Rattle.rules.proofs.Verdicts.{area-of}
 use Rattle.reply.specs.Reply.{replyLength, replyOf}
 use Rattle.effects.specs.Changes.{changeOf}
 use Rattle.answers.specs.declared.Answer as D

@@ -1,18 +1,83 @@
 // A rightly signed request: D5, D6 and the causes, then the sessions.
 ghost use mathlib.Core.Path.{_≡_};
-ghost use mathlib.Core.Bool.{true};
+ghost use mathlib.Core.Bool.{true, false};
 ghost use Prim.Native.Nat.{_≤_};
 ghost use lib.ListN.{length};
+ghost use Rattle.attributes.specs.Attributes.{attributes, any, found};
+ghost use Rattle.survey.specs.Survey.{Surveyed};
+ghost use Rattle.survey.specs.Types.{misfitting, firstRepeated, none};
+ghost use Rattle.causes.specs.declared.Cause.the-variants.{SessionNotFound, NoCause};
+ghost use Rattle.rules.specs.Packet.{codeOf, areaOf};
 ghost use Rattle.rules.specs.Settings.{settings};
 ghost use Rattle.rules.specs.Discards.{formOf, Sized};
 ghost use Rattle.rules.specs.Verdict.{checkVerdict};
-ghost use Rattle.rules.specs.declared.Verdict.the-variants.{Passed};
-ghost use Rattle.rules.specs.Packet.{codeOf, areaOf};
-ghost use Rattle.survey.specs.Survey.{Surveyed};
+ghost use Rattle.reply.specs.Reply.{replyLength};
+ghost use Rattle.effects.specs.Matching.{matchCount};
 ghost use Rattle.answers.specs.Commit.{countAnswer};
 ghost use Rattle.answers.specs.Replies.{replyAs};
-ghost use Rattle.effects.specs.Matching.{matchCount};
 ghost use Rattle.handler.specs.Handle.{answerOf, tableAs};
+
+// No cause up to 6 applies: the live sessions that match are changed, or there are none.
+fn matched(
+    t: &mut [u8],
+    reply: &mut [u8],
+    p: &[u8],
+    n: usize,
+    secret: &[u8],
+    skew: i64,
+    f: survey::Flags,
+    count: &[u8; 256],
+    ends: &[u16; 256],
+    sizes: &[u8; 256],
+) -> answers::Answer
+    requires { ⌜ Sized (now p) n × (formOf (now p) ≡ 0) ⌝ }
+    requires { ⌜ Surveyed (areaOf (now p)) (codeOf (now p)) f (now count) (now ends) (now sizes) ⌝ }
+    requires { ⌜ (any misfitting (attributes (areaOf (now p))) ≡ false) × (found (firstRepeated none (attributes (areaOf (now p)))) ≡ false) ⌝ }
+    requires { ⌜ (replyLength (now p) SessionNotFound ≤ 4096) × (replyLength (now p) NoCause ≤ 4096) × (4096 ≤ length (now reply)) ⌝ }
+    ensures { λ r. ⌜ r ≡ countAnswer (now (p .entry)) (matchCount (areaOf (now (p .entry))) (now (t .entry))) skew ⌝ }
+    ensures { λ r. ⌜ now (t .exit) ≡ tableAs (now (p .entry)) (now (t .entry)) r ⌝ }
+    ensures { λ r. ⌜ now (reply .exit) ≡ replyAs (now (secret .entry)) (now (p .entry)) (now (reply .entry)) r ⌝ }
+{
+    let s = octets::slice(p, 20, n - 20);
+    let c = effects::criteria(count, ends, sizes);
+    let marks = slots::mark_all(t, s, c);
+    answers::commit(t, &marks, reply, p, n, secret, skew, f, count, ends, sizes)
+}
+
+// What follows from the verdict v.
+fn answered(
+    t: &mut [u8],
+    n: usize,
+    secret: &[u8],
+    address: u32,
+    name: &[u8],
+    reply: &mut [u8],
+    p: &[u8],
+    clock: u32,
+    v: rules::Verdict,
+    f: survey::Flags,
+    count: &[u8; 256],
+    ends: &[u16; 256],
+    sizes: &[u8; 256],
+) -> answers::Answer
+    requires { ⌜ Sized (now p) n × (formOf (now p) ≡ 0) × (4096 ≤ length (now reply)) ⌝ }
+    requires { ⌜ Surveyed (areaOf (now p)) (codeOf (now p)) f (now count) (now ends) (now sizes) ⌝ }
+    requires { ⌜ v ≡ checkVerdict (settings (now secret) address (now name)) true (now p) clock ⌝ }
+    ensures { λ r. ⌜ r ≡ answerOf (now (p .entry)) (now (t .entry)) (checkVerdict (settings (now (secret .entry)) address (now (name .entry))) true (now (p .entry)) clock) ⌝ }
+    ensures { λ r. ⌜ now (t .exit) ≡ tableAs (now (p .entry)) (now (t .entry)) r ⌝ }
+    ensures { λ r. ⌜ now (reply .exit) ≡ replyAs (now (secret .entry)) (now (p .entry)) (now (reply .entry)) r ⌝ }
+{
+    match v {
+        rules::Verdict::Discarded(d) => answers::Answer::Discarded(d),
+        rules::Verdict::Stale(skew) => answers::Answer::Stale(skew),
+        rules::Verdict::Nak(cause, skew) => {
+            answers::nak(reply, p, n, secret, cause, skew, f, count, ends, sizes)
+        }
+        rules::Verdict::Passed(skew) => {
+            matched(t, reply, p, n, secret, skew, f, count, ends, sizes)
+        }
+    }
+}
 
 // D5, D6, causes 1 to 7, else ACK.
 pub fn signed(
@@ -35,7 +100,7 @@ pub fn signed(
     let mut sizes = [0u8; 256];
     let s = octets::slice(p, 20, n - 20);
     let f = survey::survey(s, p[0], &mut count, &mut ends, &mut sizes);
-    match rules::check(
+    let v = rules::check(
         p,
         n,
         true,
@@ -47,27 +112,20 @@ pub fn signed(
         &count,
         &ends,
         &sizes,
-    ) {
-        rules::Verdict::Discarded(d) => answers::Answer::Discarded(d),
-        rules::Verdict::Stale(skew) => answers::Answer::Stale(skew),
-        rules::Verdict::Nak(cause, skew) => {
-            answers::nak(reply, p, n, secret, cause, skew, f, &count, &ends, &sizes)
-        }
-        rules::Verdict::Passed(skew) => {
-            let marks = slots::mark_all(t, s, effects::criteria(&count, &ends, &sizes));
-            answers::commit(
-                t,
-                &marks,
-                reply,
-                p,
-                n,
-                secret,
-                skew,
-                f,
-                &count,
-                &ends,
-                &sizes,
-            )
-        }
-    }
+    );
+    answered(
+        t,
+        n,
+        secret,
+        address,
+        name,
+        reply,
+        p,
+        clock,
+        v,
+        f,
+        &count,
+        &ends,
+        &sizes,
+    )
 }
