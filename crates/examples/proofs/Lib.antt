@@ -1,1 +1,6 @@
+mod Alone
+mod Missed
+mod Absent
+mod Echoed
+mod Naks
 mod Proved

@@ -1,4 +1,4 @@
--- The marked examples hold: each is worked out from the definitions, D1 to D3 in their order.
+-- The marked examples hold: each is worked out from the definitions, D1 to D3 in their order, and the two whole packets by their laws.
 -- Assumes nothing.
 use mathlib.Core.Bool.{Bool, true, false, or-true, and-false}
 use mathlib.Core.List.{List}
@@ -19,6 +19,8 @@ use Rattle.rules.specs.Settings.{Settings}
 use Rattle.rules.specs.Discards.{badLength, badCode, badAttributes, formOf}
 use Rattle.rules.specs.Verdict.{verdictOf}
 use Rattle.examples.specs.Marked.{Marked}
+use Rattle.examples.proofs.Echoed.{echo}
+use Rattle.examples.proofs.Naks.{nak-503}
 
 -- D1 by each of two of its parts
 few : (p : List ℕ) → length p ≡ 19 → badLength p ≡ true
@@ -58,4 +60,6 @@ marked g signed p clock =
       farthest = refl;
       number = refl;
       no-name = λ slot h. rw (h, and-false, and-false);
+      full-echo = λ t b stamp h sized coded tiles long once echoed filled signed usable fresh. echo g p clock stamp sized coded tiles long once echoed filled signed usable fresh t b h;
+      session-not-found = λ t b skew n told c i proxies no-24 no-80. nak-503 g t b p clock skew n told no-24 no-80 proxies c i;
     }

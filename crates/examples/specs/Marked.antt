@@ -1,21 +1,29 @@
--- Document 01's marked examples as one table, in its order and words; D1 to D3 of a packet p at any gate g, rightly signed or not, at any clock.
+-- Document 01's marked examples as one table, in its order and words, of a packet p at any gate g and clock; D1 to D3 whether it is rightly signed or not.
 -- Assumes nothing.
 use mathlib.Core.Bool.{Bool, true, false}
-use mathlib.Core.List.{List, [], _∷_}
+use mathlib.Core.List.{List, [], _∷_, _++_}
 use mathlib.Core.Path.{_≡_}
 use Prim.Native.Nat.{ℕ, _+_, _≤_}
-use lib.IntN.{pos, negℤ}
+use lib.IntN.{ℤ, pos, negℤ}
 use lib.ListN.{length, getD}
 use Rattle.octets.specs.Numbers.{be}
-use Rattle.attributes.specs.Attributes.{tiled}
+use Rattle.octets.specs.Runs.{write}
+use Rattle.attributes.specs.Attributes.{attributes, tiled, any, countOf, kindIs}
 use Rattle.signing.specs.Block.{blockCount}
 use Rattle.slots.specs.Slot.{live}
 use Rattle.stamps.specs.declared.Stamp.the-variants.{Usable}
+use Rattle.stamps.specs.Stamp.{stampOf, stale, skewOf}
+use Rattle.causes.specs.declared.Cause.the-variants.{MissingAttribute, SessionNotFound}
 use Rattle.rules.specs.declared.Verdict.the-variants.{Discarded, Stale}
-use Rattle.rules.specs.Packet.{codeOf, lengthOf, areaOf}
+use Rattle.rules.specs.Packet.{codeOf, identifierOf, lengthOf, areaOf}
 use Rattle.rules.specs.Settings.{Settings}
-use Rattle.rules.specs.Discards.{badLength, badCode}
+use Rattle.rules.specs.Discards.{badLength, badCode, signedBy}
 use Rattle.rules.specs.Verdict.{freshVerdict, stampVerdict, verdictOf}
+use Rattle.reply.specs.Reply.{proxiesOf, replyAuth}
+use Rattle.answers.specs.declared.Answer.the-variants.{Nak}
+use Rattle.handler.specs.Refusals.{refusalOf}
+use Rattle.handler.specs.Handle.{handleAnswer, handleReply}
+use Rattle.examples.specs.Sizes.{bytesOfType, emptyOf}
 
 pub record Marked (g : Settings) (signed : Bool) (p : List ℕ) (clock : ℕ) : Type 0 where
   -- 19 bytes, D1
@@ -42,3 +50,17 @@ pub record Marked (g : Settings) (signed : Bool) (p : List ℕ) (clock : ℕ) : 
   pub number : be 0 4 (0x00 ∷ 0x01 ∷ 0x00 ∷ 0xD4 ∷ []) ≡ 65748
   -- A slot with User-Name length 0 is free
   pub no-name : (slot : List ℕ) → getD slot 18 0 ≡ 0 → live slot ≡ false
+  -- Length 4,096 with one type 55 and 4,070 bytes of type 33, none empty, rightly signed, fresh and without type 80: NAK 402 of 4,096 bytes.
+  -- Of every call that is not refused, where none of D1 to D3 applies; a usable type 55 has the other 6 bytes, so no type 80 has room
+  pub full-echo : (t b : List ℕ) (stamp : ℕ) → refusalOf g t b ≡ 0 → badLength p ≡ false → badCode p ≡ false → tiled (areaOf p) ≡ true
+      → lengthOf p ≡ 4096 → countOf (kindIs 55) (attributes (areaOf p)) ≡ 1 → bytesOfType 33 (attributes (areaOf p)) ≡ 4070 → any (emptyOf 33) (attributes (areaOf p)) ≡ false
+      → signedBy (g .secret) p ≡ true → stampOf (areaOf p) ≡ Usable stamp → stale stamp clock ≡ false
+      → handleAnswer g t b p clock ≡ Nak MissingAttribute (skewOf stamp clock) 4096
+  -- A whole NAK 503 to Disconnect identifier 7 with Proxy-State 41 (one hex byte), no State, no 80: 2A 07 00 1D, sixteen authenticator bytes, 65 06 00 00 01 F7 21 03 41.
+  -- It stands at the start of the reply buffer b, and the answer tells its 29 bytes
+  pub session-not-found : (t b : List ℕ) (skew : ℤ) (n : ℕ) → handleAnswer g t b p clock ≡ Nak SessionNotFound skew n
+      → codeOf p ≡ 40 → identifierOf p ≡ 7 → proxiesOf (areaOf p) ≡ 0x21 ∷ 0x03 ∷ 0x41 ∷ []
+      → any (kindIs 24) (attributes (areaOf p)) ≡ false → any (kindIs 80) (attributes (areaOf p)) ≡ false
+      → (handleReply g t b p clock
+      ≡ write b 0 ((0x2A ∷ 0x07 ∷ 0x00 ∷ 0x1D ∷ []) ++ replyAuth (g .secret) p SessionNotFound ++ (0x65 ∷ 0x06 ∷ 0x00 ∷ 0x00 ∷ 0x01 ∷ 0xF7 ∷ 0x21 ∷ 0x03 ∷ 0x41 ∷ [])))
+      × (length (replyAuth (g .secret) p SessionNotFound) ≡ 16) × (n ≡ 29)

@@ -26,7 +26,7 @@ use Rattle.reply.specs.Reply.{replyLength}
 use Rattle.replies.proofs.Judged.{judged-fits}
 
 -- a verdict that has a reply, or that passed
-abbrev answered : R.Verdict → Bool
+abbrev pub answered : R.Verdict → Bool
 answered (J.Discarded d) = false
 answered (J.Stale k) = false
 answered (J.Nak c k) = true
@@ -72,10 +72,11 @@ unfolding freshVerdict
 passed-cause g p k skew e = by-cause k skew (causeOf (codeOf p) (g .address) (g .name) (areaOf p)) e
 
 module _ (g : Settings) (p : List ℕ) (clock : ℕ) (x : R.Verdict) (is : x ≡ checkVerdict g true p clock) where
+  pub fits : (n : ℕ) (c : C.Cause) → Sized p n → answered x ≡ true → replyLength p c ≤ n
+  fits n c sized h = let r = reached g p clock x h is in judged-fits zeros (g .secret) p n c (r .stamp) sized (r .right) (r .usable)
+
   short : (n : ℕ) (c : C.Cause) → Sized p n → answered x ≡ true → replyLength p c ≤ 4096
-  short n c sized h =
-      let r = reached g p clock x h is in
-      omega (arith, sized .high, judged-fits zeros (g .secret) p n c (r .stamp) sized (r .right) (r .usable))
+  short n c sized h = omega (arith, sized .high, fits n c sized h)
 
   pub nak-short : (n : ℕ) (c d : C.Cause) (k : ℤ) → x ≡ J.Nak c k → Sized p n → replyLength p d ≤ 4096
   nak-short n c d k e sized = short n d sized (ap answered e)

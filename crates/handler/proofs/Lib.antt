@@ -1,3 +1,4 @@
 pub mod Fresh
 pub mod Arms
 pub mod Stages
+pub mod Bounds

@@ -1,0 +1,46 @@
+-- Answers as numbers for C: 0 acknowledged; 1 to 99 refused, document 01's R number; 100 + n discarded by Dn; 401 to 599 NAK with that Error-Cause.
+-- Beside them go four numbers, which a refusal leaves as they were.
+-- Assumes nothing.
+use Prim.Native.Nat.{ℕ, _+_}
+use lib.IntN.{ℤ, pos}
+use Rattle.causes.specs.Causes.{errorCause}
+use Rattle.answers.specs.declared.Answer as D
+use Rattle.answers.specs.declared.Answer.the-variants.{Refused, Discarded, Stale, Nak, Ack}
+
+unfoldable pub numberOf : D.Answer → ℕ
+numberOf (Refused n) = n
+numberOf (Discarded d) = 100 + d
+numberOf (Stale skew) = 106
+numberOf (Nak c skew n) = errorCause c
+numberOf (Ack k skew n) = 0
+
+-- sessions changed: 0 unless ACK
+unfoldable pub changedBy : D.Answer → ℕ → ℕ
+changedBy (Refused n) old = old
+changedBy (Discarded d) old = 0
+changedBy (Stale skew) old = 0
+changedBy (Nak c skew n) old = 0
+changedBy (Ack k skew n) old = k
+
+-- the reply's length: 0 where there is none
+unfoldable pub lengthBy : D.Answer → ℕ → ℕ
+lengthBy (Refused n) old = old
+lengthBy (Discarded d) old = 0
+lengthBy (Stale skew) old = 0
+lengthBy (Nak c skew n) old = n
+lengthBy (Ack k skew n) old = n
+
+-- the signed skew, and 1; or 0 and 0 where no stamp is usable
+unfoldable pub skewBy : D.Answer → ℤ → ℤ
+skewBy (Refused n) old = old
+skewBy (Discarded d) old = pos 0
+skewBy (Stale skew) old = skew
+skewBy (Nak c skew n) old = skew
+skewBy (Ack k skew n) old = skew
+
+unfoldable pub stampedBy : D.Answer → ℕ → ℕ
+stampedBy (Refused n) old = old
+stampedBy (Discarded d) old = 0
+stampedBy (Stale skew) old = 1
+stampedBy (Nak c skew n) old = 1
+stampedBy (Ack k skew n) old = 1
