@@ -1,0 +1,3 @@
+pub mod Job
+pub mod Reread
+pub mod Moves

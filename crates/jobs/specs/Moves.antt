@@ -1,0 +1,115 @@
+-- The moves of a job (document 01, "The desk": Hash, Check, Match, Commit). g is what the scheduler was made with, q the job's part of the store, t the table.
+-- Assumes nothing.
+use mathlib.Core.Bool.{Bool, cond}
+use mathlib.Core.List.{List}
+use Prim.Native.Nat.{ℕ, _+_}
+use lib.Dec.{ltb}
+use lib.IntN.{ℤ, pos}
+use lib.ListN.{length, set}
+use Rattle.octets.specs.Runs.{equalBytes}
+use Rattle.md5.specs.Md5.{output}
+use Rattle.signing.specs.Block.{blockCount, hashed}
+use Rattle.slots.specs.Slot.{slotCount}
+use Rattle.slots.specs.Marks.{noMarks}
+use Rattle.stamps.specs.declared.Stamp as T
+use Rattle.stamps.specs.declared.Stamp.the-variants.{Usable, Unusable}
+use Rattle.stamps.specs.Stamp.{stampOf, skewOf}
+use Rattle.rules.specs.declared.Verdict as R
+use Rattle.rules.specs.declared.Verdict.the-variants as J
+use Rattle.rules.specs.Packet.{authOf, areaOf}
+use Rattle.rules.specs.Settings.{Settings}
+use Rattle.rules.specs.Verdict.{checkVerdict}
+use Rattle.reply.specs.Reply.{replyLength}
+use Rattle.effects.specs.Matching.{matchesIn}
+use Rattle.answers.specs.declared.Answer as D
+use Rattle.answers.specs.declared.Answer.the-variants as A
+use Rattle.answers.specs.Replies.{replyAs}
+use Rattle.answers.specs.Commit.{commitAnswer, commitTable}
+use Rattle.jobs.specs.declared.Job as B
+use Rattle.jobs.specs.declared.Stage as S
+use Rattle.jobs.specs.declared.Stage.the-variants.{Free, Hash, Check, Match}
+use Rattle.jobs.specs.declared.Ending as E
+use Rattle.jobs.specs.declared.Ending.the-variants.{Going, Done}
+use Rattle.jobs.specs.declared.Moved as M
+use Rattle.jobs.specs.Job.{freeJob, wordsOf, stateOf}
+use Rattle.jobs.specs.Reread.{holds, holdsPassed}
+
+-- it goes on; it is finished, and free again
+abbrev pub going : B.Job → M.Moved
+going j = record { job = j; ending = Going }
+
+abbrev pub done : D.Answer → M.Moved
+done a = record { job = freeJob; ending = Done a }
+
+-- Hash: block k, from the words as held, the kept Length and the store as it stands; behind the last block comes Check
+unfoldable pub hashJob : List ℕ → B.Job → ℕ → List ℕ → B.Job
+hashJob secret j k q =
+    record {
+      stage = cond (ltb (k + 1) (blockCount (j .length + length secret))) (Hash (k + 1)) Check;
+      words = wordsOf (hashed (stateOf (j .words)) k q (j .length) secret);
+      marks = j .marks;
+      length = j .length;
+      clock = j .clock;
+    }
+
+-- D4 by the words as held: are they the authenticator in the store
+unfoldable pub wordsSigned : B.Job → List ℕ → Bool
+wordsSigned j q = equalBytes (authOf q) (output (stateOf (j .words)))
+
+-- Check: D4 to D6 and causes 1 to 6; what passed goes on to slot 0
+abbrev pub checkedAs : B.Job → List ℕ → R.Verdict → M.Moved
+checkedAs j q (J.Discarded d) = done (A.Discarded d)
+checkedAs j q (J.Stale skew) = done (A.Stale skew)
+checkedAs j q (J.Nak c skew) = done (A.Nak c skew (replyLength q c))
+checkedAs j q (J.Passed skew) = going (record { stage = Match 0; words = j .words; marks = noMarks; length = j .length; clock = j .clock })
+
+unfoldable pub checkMove : Settings → B.Job → List ℕ → M.Moved
+checkMove g j q = cond (holds (j .length) q) (checkedAs j q (checkVerdict g (wordsSigned j q) q (j .clock))) (done (A.Discarded 1))
+
+-- Match: slot k
+unfoldable pub matchJob : B.Job → ℕ → List ℕ → List ℕ → B.Job
+matchJob j k q t =
+    record { stage = Match (k + 1); words = j .words; marks = cond (matchesIn (areaOf q) t k) (set (j .marks) k 1) (j .marks); length = j .length; clock = j .clock }
+
+-- the skew at Commit: the stamp in the store then, minus the kept clock
+abbrev pub skewAt : T.Stamp → ℕ → ℤ
+skewAt (Usable v) clock = skewOf v clock
+skewAt Unusable clock = pos 0
+
+-- Commit, by the marks as held: 503, or changes and ACK
+unfoldable pub commitMove : B.Job → List ℕ → List ℕ → M.Moved
+commitMove j q t = done (commitAnswer q (j .marks) t (skewAt (stampOf (areaOf q)) (j .clock)))
+
+-- a job's place is the next slot to examine; where it is not below the table's number of slots, the job awaits Commit
+unfoldable pub slotMove : Settings → B.Job → ℕ → List ℕ → List ℕ → M.Moved
+slotMove g j k q t =
+    cond (holdsPassed g (j .length) q)
+    (cond (ltb k (slotCount t)) (going (matchJob j k q t)) (commitMove j q t))
+    (done (A.Discarded 1))
+
+unfoldable pub slotTable : Settings → B.Job → ℕ → List ℕ → List ℕ → List ℕ
+slotTable g j k q t = cond (holdsPassed g (j .length) q) (cond (ltb k (slotCount t)) t (commitTable q (j .marks) t)) t
+
+-- one step of a job, and the table after it; of a free job nothing
+abbrev pub movedAt : Settings → S.Stage → B.Job → List ℕ → List ℕ → M.Moved
+movedAt g Free j q t = going j
+movedAt g (Hash k) j q t = going (hashJob (g .secret) j k q)
+movedAt g Check j q t = checkMove g j q
+movedAt g (Match k) j q t = slotMove g j k q t
+
+unfoldable pub moved : Settings → B.Job → List ℕ → List ℕ → M.Moved
+moved g j q t = movedAt g (j .stage) j q t
+
+abbrev pub movedTableAt : Settings → S.Stage → B.Job → List ℕ → List ℕ → List ℕ
+movedTableAt g Free j q t = t
+movedTableAt g (Hash k) j q t = t
+movedTableAt g Check j q t = t
+movedTableAt g (Match k) j q t = slotTable g j k q t
+
+unfoldable pub movedTable : Settings → B.Job → List ℕ → List ℕ → List ℕ
+movedTable g j q t = movedTableAt g (j .stage) j q t
+
+-- the reply buffer after a move: only a step that finishes in ACK or NAK writes it
+abbrev pub replyAfter : List ℕ → List ℕ → List ℕ → E.Ending → List ℕ
+replyAfter secret q b Going = b
+replyAfter secret q b (Done a) = replyAs secret q b a
