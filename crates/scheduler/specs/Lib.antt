@@ -1,0 +1,4 @@
+pub mod Scheduler
+pub mod Refusals
+pub mod Calls
+pub mod Runs

@@ -1,0 +1,119 @@
+-- The serial execution (document 01's plain book): each finished request is handled whole, as demand 2 gives it, at the call that finished it, with the
+-- packet and clock of its opening. It is told a call's arguments, the store's length, and of a step whether it finished; of scheduler, caller's table and
+-- store bytes nothing.
+-- Assumes nothing.
+use mathlib.Core.Bool.{Bool, true, false, cond}
+use mathlib.Core.List.{List, [], _∷_}
+use Prim.Native.Nat.{ℕ}
+use lib.Dec.{eqb}
+use lib.ListN.{getD, set, replicate}
+use Rattle.rules.specs.Settings.{Settings}
+use Rattle.rules.specs.Discards.{formOf}
+use Rattle.sessions.specs.declared.Inserted as I
+use Rattle.sessions.specs.declared.Inserted.the-variants.{Slot, NotInserted}
+use Rattle.sessions.specs.declared.Removed as X
+use Rattle.sessions.specs.declared.Removed.the-variants.{Gone, NotRemoved}
+use Rattle.sessions.specs.Session.{insertAnswer, insertTable, removeAnswer, removeTable}
+use Rattle.handler.specs.Handle.{handleAnswer, handleTable, handleReply}
+use Rattle.scheduler.specs.declared.Outcome as O
+use Rattle.scheduler.specs.declared.Outcome.the-variants.{Refused, Discarded, Opened, Going, Done, Dropped, Started, Ended}
+use Rattle.scheduler.specs.Scheduler.{lowestFree}
+use Rattle.scheduler.specs.Refusals.{openRefusal, stepRefusal, dropRefusal}
+use Rattle.scheduler.specs.Runs.{Call, Open, Step, Drop, Start, End, Out}
+
+-- a note or none for each job number: the packet as given, and the clock
+pub data Note : Type 0 where
+  none : Note
+  noted : List ℕ → ℕ → Note
+
+abbrev pub isNoted : Note → Bool
+isNoted none = false
+isNoted (noted p clock) = true
+
+-- what the scheduler was made with, the table, and the notes
+pub record Serial : Type 0 where
+  pub settings : Settings
+  pub table : List ℕ
+  pub notes : List Note
+
+pub record Entry : Type 0 where
+  pub out : Out
+  pub serial : Serial
+
+unfoldable pub noteAt : List Note → ℕ → Note
+noteAt ns j = getD ns j none
+
+-- noted jobs are its open ones
+unfoldable pub notedAt : List Note → ℕ → Bool
+notedAt ns j = isNoted (noteAt ns j)
+
+abbrev pub entry : O.Outcome → List ℕ → Serial → Entry
+entry o b s = record { out = record { outcome = o; reply = b }; serial = s }
+
+abbrev pub withTable : Serial → List ℕ → Serial
+withTable s t = record { settings = s .settings; table = t; notes = s .notes }
+
+abbrev pub withNote : Serial → ℕ → Note → Serial
+withNote s j n = record { settings = s .settings; table = s .table; notes = set (s .notes) j n }
+
+-- opening answers D1 to D3, or notes packet and clock at the lowest free number and answers that number
+unfoldable pub enterOpen : List ℕ → ℕ → ℕ → Serial → Entry
+enterOpen p clock size s =
+    cond (eqb (openRefusal (notedAt (s .notes)) size) 0)
+    (cond (eqb (formOf p) 0)
+    (entry (Opened (lowestFree (notedAt (s .notes)))) [] (withNote s (lowestFree (notedAt (s .notes))) (noted p clock)))
+    (entry (Discarded (formOf p)) [] s))
+    (entry (Refused (openRefusal (notedAt (s .notes)) size)) [] s)
+
+-- a step that finished handles the noted packet whole and strikes the note
+abbrev pub handled : Note → ℕ → List ℕ → Serial → Entry
+handled none j b s = entry Going b s
+handled (noted p clock) j b s =
+    entry (Done (handleAnswer (s .settings) (s .table) b p clock))
+    (handleReply (s .settings) (s .table) b p clock)
+    (withTable (withNote s j none) (handleTable (s .settings) (s .table) b p clock))
+
+-- a step neither refused nor finished changes nothing and answers only that it did not finish
+unfoldable pub enterStep : ℕ → List ℕ → Bool → ℕ → Serial → Entry
+enterStep j b finished size s =
+    cond (eqb (stepRefusal (notedAt (s .notes)) size j (s .table) b) 0)
+    (cond finished (handled (noteAt (s .notes) j) j b s) (entry Going b s))
+    (entry (Refused (stepRefusal (notedAt (s .notes)) size j (s .table) b)) b s)
+
+-- drop strikes the note
+unfoldable pub enterDrop : ℕ → Serial → Entry
+enterDrop j s =
+    cond (eqb (dropRefusal (notedAt (s .notes)) j) 0)
+    (entry Dropped [] (withNote s j none))
+    (entry (Refused (dropRefusal (notedAt (s .notes)) j)) [] s)
+
+-- start and end act on its table
+abbrev pub startOutcome : I.Inserted → O.Outcome
+startOutcome (Slot k) = Started k
+startOutcome (NotInserted n) = Refused n
+
+abbrev pub endOutcome : X.Removed → O.Outcome
+endOutcome Gone = Ended
+endOutcome (NotRemoved n) = Refused n
+
+unfoldable pub enter : Call → Bool → ℕ → Serial → Entry
+enter (Open p clock) finished size s = enterOpen p clock size s
+enter (Step j b) finished size s = enterStep j b finished size s
+enter (Drop j) finished size s = enterDrop j s
+enter (Start x) finished size s = entry (startOutcome (insertAnswer x (s .table))) [] (withTable s (insertTable x (s .table)))
+enter (End k) finished size s = entry (endOutcome (removeAnswer k (s .table))) [] (withTable s (removeTable k (s .table)))
+
+-- at first none is noted
+abbrev pub start : Settings → List ℕ → Serial
+start g t = record { settings = g; table = t; notes = replicate 4 none }
+
+-- a list of calls, each with whether it was a step that finished
+pub record Kept : Type 0 where
+  pub outs : List Out
+  pub serial : Serial
+
+unfoldable pub keep : List Call → List Bool → ℕ → Serial → Kept
+keep [] fs size s = record { outs = []; serial = s }
+keep (c ∷ cs) [] size s = record { outs = []; serial = s }
+keep (c ∷ cs) (f ∷ fs) size s =
+    record { outs = enter c f size s .out ∷ keep cs fs size (enter c f size s .serial) .outs; serial = keep cs fs size (enter c f size s .serial) .serial }
