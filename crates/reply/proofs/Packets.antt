@@ -53,6 +53,10 @@ module _ (secret base head body : List ℕ) (present : Bool) where
   unfolding packetAuth
   length-packetAuth = length-authenticator _ _ _ _
 
+  pub length-signed : length head ≡ 4 → length (signedPacket secret base head body present) ≡ packetLength body present
+  unfolding signedPacket
+  length-signed four = length-packet head body present _ _ four length-packetAuth length-packetMac
+
 pub packet-low : (body : List ℕ) (present : Bool) → 20 ≤ packetLength body present
 unfolding packetLength
 packet-low body present = omega arith
