@@ -1,8 +1,8 @@
 -- A packet that is signed, of attributes that fill its area and have no type 80: it meets neither D1 nor D3, its authenticator is right, and so is its type 80, the only one,
 -- which ends it. Assumes nothing.
-use mathlib.Core.Path.{_≡_, refl, sym, ap, _∙_}
+use mathlib.Core.Path.{_≡_, refl, ap, _∙_}
 use mathlib.Core.Bool.{Bool, true, false}
-use mathlib.Core.List.{List, [], _∷_, _++_}
+use mathlib.Core.List.{List, _∷_, _++_}
 use Prim.Native.Nat.{ℕ, _+_, _-_, _≤_}
 use native.Mathlib.Omega.{arith}
 use borrow.Author.Tests.{le-ltb, eq-eqb}
@@ -10,9 +10,9 @@ use lib.ListN.{length}
 use Rattle.octets.specs.Numbers.{beBytes}
 use Rattle.octets.specs.Runs.{equalBytes}
 use Rattle.octets.proofs.Equality.{equal-refl}
-use Rattle.attributes.specs.Attributes.{attributes, valueOf, firstOf, onFirst, countOf, kindIs}
+use Rattle.attributes.specs.Attributes.{attributes, valueOf, firstOf, onFirst, kindIs}
 use Rattle.attributes.proofs.Searches.{only}
-use Rattle.signing.specs.Signing.{zeros, authenticator, messageAuthenticator}
+use Rattle.signing.specs.Signing.{authenticator, messageAuthenticator}
 use Rattle.signing.proofs.Messages.{length-zeros}
 use Rattle.rules.specs.Packet.{lengthOf, authOf, areaOf}
 use Rattle.rules.specs.Discards.{badLength, badAttributes, wrongMac, badMac}
@@ -50,8 +50,13 @@ module _ (secret base body : List ℕ) (present : Bool) (k i n : ℕ) (plain : P
   unfolding badLength
   packet-sized =
       let low = packet-low body present in
-      rw (named, length-signed secret base (k ∷ i ∷ beBytes 2 n) body present (head-four secret base body present k i n),
-          le-ltb (packetLength body present) 20 low, le-ltb 4096 (packetLength body present) (omega arith), le-ltb (packetLength body present) (packetLength body present) (omega arith))
+      rw (
+        named,
+        length-signed secret base (k ∷ i ∷ beBytes 2 n) body present (head-four secret base body present k i n),
+        le-ltb (packetLength body present) 20 low,
+        le-ltb 4096 (packetLength body present) (omega arith),
+        le-ltb (packetLength body present) (packetLength body present) (omega arith),
+      )
 
   pub packet-tiled : badAttributes (signedPacket secret base (k ∷ i ∷ beBytes 2 n) body present) ≡ false
   unfolding badAttributes

@@ -28,8 +28,8 @@ plain-both x y h g =
     record {
       tiles = tiled-both x y (h .tiles) (g .tiles);
       none =
-        rw (attributes-append x y (h .tiles), any-append (kindIs 80) (attributes x) (map (behind (length x)) (attributes y)), h .none, any-behind 80 (length x) (attributes y))
-        (g .none);
+          rw (attributes-append x y (h .tiles), any-append (kindIs 80) (attributes x) (map (behind (length x)) (attributes y)), h .none, any-behind 80 (length x) (attributes y))
+          (g .none);
     }
 
 pub plain-bytes : (k : ℕ) (v : List ℕ) → (k ≡ 80 → ⊥) → Plain (bytesOf k v)

@@ -1,13 +1,11 @@
 -- Type 80 behind attributes that have none: it is the only one and the last, and the others stand as before. Assumes nothing.
-use mathlib.Core.Path.{_≡_, refl, ap, _∙_}
+use mathlib.Core.Path.{_≡_, _∙_}
 use mathlib.Core.Bool.{Bool, true, false}
 use mathlib.Core.List.{List, [], _∷_, _++_}
 use Prim.Native.Nat.{ℕ, _+_, _≤_}
 use native.Mathlib.Omega.{arith}
 use lib.ListN.{length}
 use Rattle.attributes.specs.declared.Attribute.{Attribute}
-use Rattle.attributes.specs.declared.Search.{Search}
-use Rattle.attributes.specs.declared.Search.the-variants.{At, Missing}
 use Rattle.attributes.specs.Attributes.{attributes, valueOf, tiled, firstOf, countOf, kindIs, behind, bytesOf}
 use Rattle.attributes.proofs.Areas.{tiled-both, attributes-append, nil-tiled, nil-attributes, bytes-tiled, bytes-attributes, bytes-value, value-behind, lone}
 use Rattle.attributes.proofs.Searches.{any-none, count-append, first-behind}

@@ -1,16 +1,15 @@
 -- How long the parts of a reply are: the head 4, the authenticators 16, and type 80 as long with any value of 16 bytes as with zeros.
 -- Assumes nothing.
-use mathlib.Core.Path.{_≡_, refl, sym, ap, _∙_}
-use mathlib.Core.Bool.{Bool, true, false, cond}
-use mathlib.Core.List.{List, [], _∷_}
+use mathlib.Core.Path.{_≡_, ap}
+use mathlib.Core.List.{List}
 use Prim.Native.Nat.{ℕ, suc, _≤_}
 use native.Mathlib.Omega.{arith}
-use lib.ListN.{length, length-append}
+use lib.ListN.{length}
 use Rattle.octets.proofs.Numbers.{length-beBytes}
 use Rattle.octets.proofs.Part.{length-part}
 use Rattle.attributes.specs.Attributes.{attributes, any, kindIs}
 use Rattle.signing.specs.Signing.{zeros}
-use Rattle.signing.proofs.Messages.{length-zeros, length-authenticator, length-messageAuthenticator}
+use Rattle.signing.proofs.Messages.{length-authenticator, length-messageAuthenticator}
 use Rattle.causes.specs.declared.Cause.{Cause}
 use Rattle.rules.specs.Packet.{authOf, areaOf}
 use Rattle.rules.specs.Discards.{Sized}

@@ -1,5 +1,5 @@
 -- R13's pass over the attributes: none of type 80 stands before the place, so what the rest says is what the whole says; a type 80 or a bad place decides. Assumes nothing.
-use mathlib.Core.Path.{_≡_, refl, sym, ap, _∙_}
+use mathlib.Core.Path.{_≡_, refl, sym, _∙_}
 use mathlib.Core.Bool.{Bool, true, false, not, _||_, or-true}
 use mathlib.Core.List.{List}
 use Prim.Native.Nat.{ℕ}

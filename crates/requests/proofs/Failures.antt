@@ -1,8 +1,8 @@
 -- V1 to V6 from the tests that the code makes, in their order. Assumes nothing.
-use mathlib.Core.Path.{_≡_, refl, sym, ap, _∙_}
+use mathlib.Core.Path.{_≡_, sym, ap, _∙_}
 use mathlib.Core.Bool.{Bool, true, false, not, _||_}
 use mathlib.Core.List.{List}
-use Prim.Native.Nat.{ℕ, _+_, _-_, _≤_, _<_}
+use Prim.Native.Nat.{ℕ, _+_, _-_, _≤_}
 use native.Mathlib.Omega.{arith}
 use borrow.Author.Tests.{eq-eqb, ne-eqb}
 use lib.Dec.{eqb}
@@ -13,12 +13,11 @@ use Rattle.attributes.specs.Attributes.{tiled}
 use Rattle.signing.specs.Signing.{authenticator}
 use Rattle.survey.specs.declared.Flags.{Flags}
 use Rattle.survey.specs.Survey.{Surveyed}
-use Rattle.rules.specs.Packet.{codeOf, identifierOf, lengthOf, authOf, areaOf}
+use Rattle.rules.specs.Packet.{codeOf, identifierOf, areaOf}
 use Rattle.rules.specs.Settings.{badSecret}
 use Rattle.rules.specs.Discards.{badLength, badAttributes, formOf, badMac, Sized}
 use Rattle.rules.proofs.Forms.{form-good, good-head}
 use Rattle.rules.proofs.Verdicts.{area-of}
-use Rattle.requests.specs.declared.Checked as D
 use Rattle.requests.specs.declared.Checked.the-variants.{Right, Failed, NotChecked}
 use Rattle.requests.specs.ReplyCheck.{badRequest, badReply, wrongCode, wrongIdentifier, wrongAuthenticator, failureOf, checkAnswer}
 

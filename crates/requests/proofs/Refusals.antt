@@ -11,7 +11,6 @@ use lib.ListN.{length}
 use Rattle.octets.specs.Runs.{write}
 use Rattle.attributes.specs.Attributes.{attributes, tiled, any, kindIs}
 use Rattle.rules.specs.Settings.{badSecret}
-use Rattle.requests.specs.declared.Written as D
 use Rattle.requests.specs.declared.Written.the-variants.{Done, NotWritten}
 use Rattle.requests.specs.Writer.{Draft, draft, badGiven, writeRefusal, requestLength, requestOf, writeAnswer, writeOutput}
 

@@ -1,6 +1,6 @@
 -- What the calls of `put_request` ask and leave: R13 says that the attributes and type 80 have room, and the end of the last part is the request's length.
 -- Assumes nothing.
-use mathlib.Core.Path.{_≡_, refl, ap, _∙_}
+use mathlib.Core.Path.{_≡_, refl, _∙_}
 use mathlib.Core.Bool.{Bool, true, false, cond, not, _||_, false≢true}
 use mathlib.Core.List.{List, [], _∷_, _++_, append-assoc}
 use Prim.Native.Nat.{ℕ, _+_, _≤_}
@@ -19,7 +19,7 @@ use Rattle.reply.specs.Rooms.{macRoom, withMac}
 use Rattle.reply.proofs.Writes.{write-before}
 use Rattle.reply.proofs.Packets.{valued, packet, packetLength, packetMac, packetAuth, signedPacket}
 use Rattle.reply.proofs.Sealing.{sealed}
-use Rattle.requests.specs.Writer.{Draft, draft, badGiven, macAdded, requestLength, requestWith, requestMac, requestAuth, requestOf}
+use Rattle.requests.specs.Writer.{draft, badGiven, macAdded, requestLength, requestWith, requestMac, requestAuth, requestOf}
 
 -- R13 does not apply: the attributes have room, type 80 with them
 long-case : (n : ℕ) (add x y z : Bool) → ltb (cond add 4058 4076) n ≡ z → (x || (y || z)) ≡ false → n + length (cond add (80 ∷ 18 ∷ zeros) []) ≤ 4076

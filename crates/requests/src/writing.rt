@@ -1,6 +1,6 @@
 // A request as it is written: why it is refused, and its bytes.
 ghost use mathlib.Core.Path.{_≡_};
-ghost use mathlib.Core.Bool.{Bool, false, cond, not, _||_};
+ghost use mathlib.Core.Bool.{false, cond, not, _||_};
 ghost use Prim.Native.Nat.{ℕ, _≤_};
 ghost use lib.Dec.{eqb};
 ghost use lib.ListN.{length};
