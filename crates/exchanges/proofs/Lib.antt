@@ -1,3 +1,4 @@
 pub mod Padded
 pub mod Requests
 pub mod Outputs
+pub mod Given
