@@ -63,33 +63,33 @@ module _ (secret q r : List ℕ) (d : ℕ) (is : d ≡ formOf q) where
       unfolding badReply badAttributes
       reply-good h = rw (← long, good, ← tiles-as, h)
 
--- neither V1 nor V2 applies; w is the test of V3
+-- neither V1 nor V2 applies; w and u are the tests of V3 and V4
 module _ (secret q r : List ℕ) (n : ℕ) (form : formOf q ≡ 0) (good : badReply r ≡ false) (sized : Sized r n)
     (w : Bool) (code : w ≡ not (eqb (codeOf r) (codeOf q + 1) || eqb (codeOf r) (codeOf q + 2))) where
   pub code-fails : w ≡ true → 3 ≡ failureOf secret q r
   unfolding failureOf badRequest wrongCode
   code-fails h = rw (form, good, ← code, h)
 
-  module _ (right : w ≡ false) where
-    pub identifier-fails : (identifierOf r ≡ identifierOf q → ⊥) → 4 ≡ failureOf secret q r
+  module _ (right : w ≡ false) (u : Bool) (identifier : u ≡ not (eqb (identifierOf r) (identifierOf q))) where
+    pub identifier-fails : u ≡ true → 4 ≡ failureOf secret q r
     unfolding failureOf badRequest wrongCode wrongIdentifier
-    identifier-fails h = rw (form, good, ← code, right, ne-eqb _ _ h)
+    identifier-fails h = rw (form, good, ← code, right, ← identifier, h)
 
     -- v is what the comparison of the authenticators says, m the test of V6
-    module _ (same : identifierOf r ≡ identifierOf q) (auth : List ℕ) (at : auth ≡ part 4 16 q)
+    module _ (same : u ≡ false) (auth : List ℕ) (at : auth ≡ part 4 16 q)
         (v : Bool) (compared : v ≡ equalBytes (part 4 16 r) (authenticator auth r n secret)) where
       pub authenticator-fails : v ≡ false → 5 ≡ failureOf secret q r
       unfolding failureOf badRequest wrongCode wrongIdentifier wrongAuthenticator
-      authenticator-fails h = rw (form, good, ← code, right, eq-eqb _ _ same, ← (sized .is), ← at, ← compared, h)
+      authenticator-fails h = rw (form, good, ← code, right, ← identifier, same, ← (sized .is), ← at, ← compared, h)
 
       module _ (signed : v ≡ true) (m : Bool) (mac : m ≡ badMac auth secret r) where
         pub mac-fails : m ≡ true → 6 ≡ failureOf secret q r
         unfolding failureOf badRequest wrongCode wrongIdentifier wrongAuthenticator
-        mac-fails h = rw (form, good, ← code, right, eq-eqb _ _ same, ← (sized .is), ← at, ← compared, signed, ← mac, h)
+        mac-fails h = rw (form, good, ← code, right, ← identifier, same, ← (sized .is), ← at, ← compared, signed, ← mac, h)
 
         pub none-fails : m ≡ false → 0 ≡ failureOf secret q r
         unfolding failureOf badRequest wrongCode wrongIdentifier wrongAuthenticator
-        none-fails h = rw (form, good, ← code, right, eq-eqb _ _ same, ← (sized .is), ← at, ← compared, signed, ← mac, h)
+        none-fails h = rw (form, good, ← code, right, ← identifier, same, ← (sized .is), ← at, ← compared, signed, ← mac, h)
 
 -- R2, then the failure v
 module _ (secret q r : List ℕ) (b : Bool) (is : b ≡ badSecret secret) where

@@ -48,7 +48,6 @@ module _ (g : List ℕ) (code identifier : ℕ) (add : Bool) (good : badGiven (d
     pub end-high : e ≤ 4096
     end-high = omega (arith, given-short)
 
-    -- the buffer is as long behind a call as before it
     pub end-fits : (m k₁ k₂ k₃ : ℕ) → 4096 ≤ m → k₁ ≡ m → k₂ ≡ k₁ → k₃ ≡ k₂ → e ≤ k₃
     end-fits m k₁ k₂ k₃ room e₁ e₂ e₃ = omega (arith, end-high)
 
@@ -56,17 +55,24 @@ module _ (g : List ℕ) (code identifier : ℕ) (add : Bool) (good : badGiven (d
     unfolding requestLength macRoom macAdded
     end-is = he
 
-    -- l is the buffer before the calls, z the sixteen zeros
-    pub requested : (secret z l t₁ t₂ t₃ t₄ t₅ : List ℕ) → z ≡ replicate 16 0 → 4096 ≤ length l → t₁ ≡ write l 20 g → t₂ ≡ write t₁ (20 + length g) (macRoom add)
-        → t₃ ≡ write t₂ 0 ((code ∷ identifier ∷ beBytes 2 e) ++ z) → t₄ ≡ withMac add z t₃ e secret → t₅ ≡ write t₄ 4 (authenticator z t₄ e secret)
-        → t₅ ≡ write l 0 (requestOf secret (draft code identifier g add))
+    -- l is the buffer before the calls
+    pub requested : (secret l t₁ t₂ t₃ t₄ : List ℕ) → 4096 ≤ length l → t₁ ≡ write l 20 g → t₂ ≡ write t₁ (20 + length g) (macRoom add)
+        → t₃ ≡ write t₂ 0 ((code ∷ identifier ∷ beBytes 2 e) ++ replicate 16 0)
+        → t₄ ≡ write (withMac add zeros t₃ e secret) 4 (authenticator zeros (withMac add zeros t₃ e secret) e secret)
+        → t₄ ≡ write l 0 (requestOf secret (draft code identifier g add))
     unfolding zeros macRoom macAdded requestLength requestWith requestMac requestAuth requestOf packet packetLength valued packetMac packetAuth signedPacket
-    requested secret z l t₁ t₂ t₃ t₄ t₅ ez h e₁ e₂ e₃ e₄ e₅ =
+    requested secret l t₁ t₂ t₃ t₄ h e₁ e₂ e₃ e₄ =
         let head = code ∷ identifier ∷ beBytes 2 (requestLength (draft code identifier g add)) in
         let four : length head ≡ 4 = omega (arith, length-beBytes 2 (requestLength (draft code identifier g add))) in
         let w₂ : t₂ ≡ write l 20 (g ++ valued add zeros) = write-then t₁ t₂ l 20 (20 + length g) g (valued add zeros) e₁ e₂ refl in
         let front : 20 ≡ 0 + length (head ++ zeros) = omega (arith, length-append head zeros, length-zeros) in
         let w₃ : t₃ ≡ write l 0 (packet head g add zeros zeros) =
-        write-before t₂ t₃ l 0 20 (head ++ zeros) (g ++ valued add zeros) w₂ (e₃ ∙ rw (ez, end-is)) front ∙ rw (← (append-assoc (head ++ zeros))) in
+        write-before t₂ t₃ l 0 20 (head ++ zeros) (g ++ valued add zeros) w₂ (e₃ ∙ rw end-is) front ∙ rw (← (append-assoc (head ++ zeros))) in
         let short = given-short in
-        sealed secret zeros head g l add four length-zeros (omega arith) add t₃ t₄ t₅ refl w₃ (e₄ ∙ rw (ez, he)) (e₅ ∙ rw (ez, he))
+        sealed secret zeros head g l add four length-zeros (omega arith) add t₃ (withMac add zeros t₃ e secret) t₄ refl w₃ (rw he) (e₄ ∙ rw he)
+
+-- the two signatures over the sixteen zeros z
+pub seals-over : (z t t₁ t₂ secret : List ℕ) (add : Bool) (n : ℕ) → z ≡ replicate 16 0 → t₁ ≡ withMac add z t n secret → t₂ ≡ write t₁ 4 (authenticator z t₁ n secret)
+    → t₂ ≡ write (withMac add zeros t n secret) 4 (authenticator zeros (withMac add zeros t n secret) n secret)
+unfolding zeros
+seals-over z t t₁ t₂ secret add n e e₁ e₂ = e₂ ∙ rw (e₁, e)

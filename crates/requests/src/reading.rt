@@ -1,7 +1,7 @@
 // The check of a reply: V1 to V6, each returned as soon as it is known.
 ghost use mathlib.Core.Path.{_≡_};
 ghost use mathlib.Core.Bool.{false, not, _||_};
-ghost use Prim.Native.Nat.{_+_, _<_, _≤_};
+ghost use Prim.Native.Nat.{_+_, _≤_};
 ghost use lib.Dec.{eqb};
 ghost use lib.ListN.{length};
 ghost use Rattle.octets.specs.Runs.{part, equalBytes};
@@ -11,15 +11,23 @@ ghost use Rattle.rules.specs.Packet.{codeOf, areaOf};
 ghost use Rattle.rules.specs.Discards.{formOf, Sized};
 ghost use Rattle.requests.specs.ReplyCheck.{badReply, failureOf};
 
-// V3: code is the code of a request.
+// V3: the answer's code is not the request's plus 1 or 2.
 fn wrong_code(code: u8, answer: u8) -> bool
-    requires { ⌜ code < 64 ⌝ }
     ensures { λ r. ⌜ r ≡ not (eqb answer (code + 1) || eqb answer (code + 2)) ⌝ }
 {
-    if answer == code + 1 {
+    let asked = code as u16;
+    let got = answer as u16;
+    if got == asked + 1 {
         return false;
     }
-    answer != code + 2
+    got != asked + 2
+}
+
+// V4: the identifiers differ.
+fn wrong_identifier(identifier: u8, answer: u8) -> bool
+    ensures { λ r. ⌜ r ≡ not (eqb answer identifier) ⌝ }
+{
+    answer != identifier
 }
 
 // Whether a packet holds its authenticator, worked out over auth. The comparison takes all 16 bytes.
@@ -49,7 +57,7 @@ fn mismatch(
     if wrong_code(q[0], r[0]) {
         return 3;
     }
-    if r[1] != q[1] {
+    if wrong_identifier(q[1], r[1]) {
         return 4;
     }
     let auth = octets::slice(q, 4, 16);

@@ -1,11 +1,13 @@
 // A request as it is written: why it is refused, and its bytes.
 ghost use mathlib.Core.Path.{_≡_};
 ghost use mathlib.Core.Bool.{false, cond, not, _||_};
-ghost use Prim.Native.Nat.{ℕ, _≤_};
+ghost use Prim.Native.Nat.{ℕ, _+_, _≤_};
 ghost use lib.Dec.{eqb};
 ghost use lib.ListN.{length};
 ghost use Rattle.octets.specs.Runs.{write};
 ghost use Rattle.attributes.specs.Attributes.{attributes, tiled, any, kindIs};
+ghost use Rattle.signing.specs.Signing.{zeros, authenticator};
+ghost use Rattle.reply.specs.Rooms.{macRoom, withMac};
 ghost use Rattle.requests.specs.Writer.{draft, badGiven, writeRefusal, requestLength, requestOf};
 
 // R12's codes: Disconnect-Request or CoA-Request.
@@ -80,7 +82,17 @@ pub fn refusal(code: u32, given: &[u8], add: bool, secret: &[u8], out: &[u8]) ->
     12
 }
 
-// Writes a request that is not refused, and returns its length. The signatures come last, over zeros.
+// The signatures of a request of Length n, over zeros: the Message-Authenticator first.
+fn put_seals(out: &mut [u8], n: usize, add: bool, secret: &[u8])
+    requires { ⌜ (20 + length (macRoom «add») ≤ n) × (n ≤ length (now out)) ⌝ }
+    ensures { λ _. ⌜ now (out .exit) ≡ write (withMac «add» zeros (now (out .entry)) n (now (secret .entry))) 4 (authenticator zeros (withMac «add» zeros (now (out .entry)) n (now (secret .entry))) n (now (secret .entry))) ⌝ }
+{
+    let zero = [0u8; 16];
+    reply::seal::put_mac(&mut *out, n, &zero, secret, add);
+    reply::seal::put_authenticator(&mut *out, n, &zero, secret);
+}
+
+// Writes a request that is not refused, and returns its length.
 pub fn put_request(
     code: u8,
     identifier: u8,
@@ -97,7 +109,6 @@ pub fn put_request(
     octets::copy(&mut *out, 20, given);
     let e = reply::frame::put_room(&mut *out, 20 + given.len(), add);
     reply::frame::put_front(&mut *out, code, identifier, e, &zero);
-    reply::seal::put_mac(&mut *out, e, &zero, secret, add);
-    reply::seal::put_authenticator(out, e, &zero, secret);
+    put_seals(out, e, add, secret);
     e
 }

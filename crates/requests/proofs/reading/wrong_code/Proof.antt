@@ -12,10 +12,4 @@ returns-2 : tie.Need-returns-2
 returns-2 c = search (needs, code-second)
 
 pub wrong-code-spec : {M : Type 1} → statement M
-wrong-code-spec =
-    tie.close
-    (tie.spec
-    (λ c. search needs)
-    returns
-    (λ c. search needs)
-    returns-2)
+wrong-code-spec = tie.close (tie.spec (λ c. search needs) returns (λ c. search needs) returns-2)
