@@ -1,10 +1,11 @@
--- The attributes of a reply fill its Length: each is a type, a length that counts both and the value, and a value of that length.
+-- The attributes of a reply fill its area, and none but the last is of type 80: each of its parts is an attribute as it came, one of a value of known length, or nothing.
 -- Assumes nothing.
 use mathlib.Core.Path.{_≡_, refl, ap, _∙_}
 use mathlib.Core.Bool.{Bool, true, false, cond}
 use mathlib.Core.List.{List, [], _∷_, _++_, List·Memᴰ, List·Memᴰ·head, List·Memᴰ·tail}
 use Prim.Native.Nat.{ℕ, _+_, _≤_}
 use native.Mathlib.Omega.{arith}
+use borrow.Author.Tests.{eqb-true}
 use lib.ListN.{length}
 use Rattle.octets.specs.Numbers.{beBytes}
 use Rattle.octets.proofs.Numbers.{length-beBytes}
@@ -12,63 +13,62 @@ use Rattle.attributes.specs.declared.Attribute.{Attribute}
 use Rattle.attributes.specs.declared.Search.{Search}
 use Rattle.attributes.specs.declared.Search.the-variants.{At, Missing}
 use Rattle.attributes.specs.declared.Step.the-variants.{Found}
-use Rattle.attributes.specs.Attributes.{stepAt, valueOf, attributes, tiled, any, firstOf, kindIs}
+use Rattle.attributes.specs.Attributes.{stepAt, valueOf, attributes, tiled, firstOf, kindIs}
+use Rattle.attributes.proofs.Searches.{first-passes}
 use Rattle.attributes.proofs.Steps.{step-inv}
 use Rattle.attributes.proofs.Stands.{first-stands, member-stands}
-use Rattle.attributes.proofs.Areas.{placed-bytes, bytes-tiled, nil-tiled, tiled-both}
+use Rattle.attributes.proofs.Areas.{placed-bytes}
 use Rattle.causes.specs.declared.Cause.{Cause}
 use Rattle.causes.specs.Causes.{errorCause}
 use Rattle.rules.specs.Packet.{areaOf}
 use Rattle.rules.specs.Verdict.{applies}
 use Rattle.reply.specs.Reply.{asCame, ifFound, stateOf, causeOf, proxiesIn, proxiesOf, bodyOf, macPart, replyLength, replyMac, replyOf}
 use Rattle.reply.proofs.Lengths.{length-replyMac}
-use Rattle.replies.proofs.Back.{reply-area}
+use Rattle.reply.proofs.Packets.{valued}
+use Rattle.replies.proofs.Back.{maced, reply-area}
+use Rattle.replies.proofs.Plain.{Plain, plain-nil, plain-both, plain-bytes}
+use Rattle.replies.proofs.Trailing.{trailing-tiled}
 
 -- an attribute as it came
-came-tiled : (s : List ℕ) (a : Attribute) → stepAt s (a .at) ≡ Found a (a .at + a .size) → tiled (asCame s a) ≡ true
-came-tiled s a q = ap tiled (placed-bytes s (a .at) a (a .at + a .size) (step-inv s (a .at) a (a .at + a .size) q)) ∙ bytes-tiled (a .kind) (valueOf s a)
+came-plain : (s : List ℕ) (a : Attribute) → stepAt s (a .at) ≡ Found a (a .at + a .size) → (a .kind ≡ 80 → ⊥) → Plain (asCame s a)
+came-plain s a q h = rw (placed-bytes s (a .at) a (a .at + a .size) (step-inv s (a .at) a (a .at + a .size) q)) (plain-bytes (a .kind) (valueOf s a) h)
 
-found-tiled : (s : List ℕ) (x : Search) → firstOf (kindIs 24) (attributes s) ≡ x → tiled (ifFound s x) ≡ true
-found-tiled s (At a) q = came-tiled s a (first-stands (kindIs 24) s a q)
-found-tiled s Missing q = nil-tiled
+found-plain : (s : List ℕ) (x : Search) → firstOf (kindIs 24) (attributes s) ≡ x → Plain (ifFound s x)
+found-plain s (At a) q = came-plain s a (first-stands (kindIs 24) s a q) (λ e. omega (arith, eqb-true (a .kind) 24 (first-passes (kindIs 24) (attributes s) a q)))
+found-plain s Missing q = plain-nil
 
-state-tiled : (s : List ℕ) → tiled (stateOf s) ≡ true
+state-plain : (s : List ℕ) → Plain (stateOf s)
 unfolding stateOf
-state-tiled s = found-tiled s (firstOf (kindIs 24) (attributes s)) refl
+state-plain s = found-plain s (firstOf (kindIs 24) (attributes s)) refl
 
-proxy-tiled : (b : Bool) (x y : List ℕ) → tiled x ≡ true → tiled y ≡ true → tiled (cond b (x ++ y) y) ≡ true
-proxy-tiled true x y h g = tiled-both x y h g
-proxy-tiled false x y h g = g
+proxy-plain : (b : Bool) (x y : List ℕ) → (b ≡ true → Plain x) → Plain y → Plain (cond b (x ++ y) y)
+proxy-plain true x y h g = plain-both x y (h refl) g
+proxy-plain false x y h g = g
 
-proxies-tiled : (s : List ℕ) (l : List Attribute) → ((a : Attribute) → List·Memᴰ a l → stepAt s (a .at) ≡ Found a (a .at + a .size)) → tiled (proxiesIn s l) ≡ true
-proxies-tiled s [] f = nil-tiled
-proxies-tiled s (a ∷ l) f =
-    proxy-tiled (kindIs 33 a) (asCame s a) (proxiesIn s l) (came-tiled s a (f a (List·Memᴰ·head refl))) (proxies-tiled s l (λ b m. f b (List·Memᴰ·tail m)))
+proxies-plain : (s : List ℕ) (l : List Attribute) → ((a : Attribute) → List·Memᴰ a l → stepAt s (a .at) ≡ Found a (a .at + a .size)) → Plain (proxiesIn s l)
+proxies-plain s [] f = plain-nil
+proxies-plain s (a ∷ l) f =
+    proxy-plain (kindIs 33 a) (asCame s a) (proxiesIn s l) (λ q. came-plain s a (f a (List·Memᴰ·head refl)) (λ e. omega (arith, eqb-true (a .kind) 33 q)))
+    (proxies-plain s l (λ b m. f b (List·Memᴰ·tail m)))
 
-all-tiled : (s : List ℕ) → tiled (proxiesOf s) ≡ true
+all-plain : (s : List ℕ) → Plain (proxiesOf s)
 unfolding proxiesOf
-all-tiled s = proxies-tiled s (attributes s) (λ a m. member-stands s 0 a m)
+all-plain s = proxies-plain s (attributes s) (λ a m. member-stands s 0 a m)
 
--- an attribute of a value of known length, or none
-attribute-tiled : (b : Bool) (k n : ℕ) (v : List ℕ) → length v + 2 ≡ n → tiled (cond b (k ∷ n ∷ v) []) ≡ true
-attribute-tiled true k n v e = rw (← e) (bytes-tiled k v)
-attribute-tiled false k n v e = nil-tiled
+cause-case : (b : Bool) (v : List ℕ) → length v ≡ 4 → Plain (cond b (101 ∷ 6 ∷ v) [])
+cause-case true v e = let six : length v + 2 ≡ 6 = omega arith in rw (← six) (plain-bytes 101 v (λ h. omega arith))
+cause-case false v e = plain-nil
 
-cause-tiled : (c : Cause) → tiled (causeOf c) ≡ true
+cause-plain : (c : Cause) → Plain (causeOf c)
 unfolding causeOf
-cause-tiled c = attribute-tiled (applies c) 101 6 (beBytes 4 (errorCause c)) (omega (arith, length-beBytes 4 (errorCause c)))
+cause-plain c = cause-case (applies c) (beBytes 4 (errorCause c)) (length-beBytes 4 (errorCause c))
 
-mac-tiled : (p mac : List ℕ) → length mac ≡ 16 → tiled (macPart p mac) ≡ true
-unfolding macPart
-mac-tiled p mac e = attribute-tiled (any (kindIs 80) (attributes (areaOf p))) 80 18 mac (omega arith)
-
-body-tiled : (p : List ℕ) (c : Cause) → tiled (bodyOf p c) ≡ true
+pub body-plain : (p : List ℕ) (c : Cause) → Plain (bodyOf p c)
 unfolding bodyOf
-body-tiled p c =
+body-plain p c =
     let s = areaOf p in
-    tiled-both (stateOf s ++ causeOf c) (proxiesOf s) (tiled-both (stateOf s) (causeOf c) (state-tiled s) (cause-tiled c)) (all-tiled s)
+    plain-both (stateOf s ++ causeOf c) (proxiesOf s) (plain-both (stateOf s) (causeOf c) (state-plain s) (cause-plain c)) (all-plain s)
 
 pub reply-tiled : (secret p : List ℕ) (c : Cause) → replyLength p c ≤ 4096 → tiled (areaOf (replyOf secret p c)) ≡ true
-reply-tiled secret p c h =
-    let mac = replyMac secret p c in
-    ap tiled (reply-area secret p c h) ∙ tiled-both (bodyOf p c) (macPart p mac) (body-tiled p c) (mac-tiled p mac (length-replyMac secret p c))
+unfolding macPart valued
+reply-tiled secret p c h = ap tiled (reply-area secret p c h) ∙ trailing-tiled (bodyOf p c) (replyMac secret p c) (body-plain p c) (length-replyMac secret p c) (maced p)

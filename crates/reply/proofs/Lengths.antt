@@ -1,20 +1,20 @@
 -- How long the parts of a reply are: the head 4, the authenticators 16, and type 80 as long with any value of 16 bytes as with zeros.
 -- Assumes nothing.
-use mathlib.Core.Path.{_≡_, refl, sym, ap, _∙_}
-use mathlib.Core.Bool.{Bool, true, false, cond}
-use mathlib.Core.List.{List, [], _∷_}
+use mathlib.Core.Path.{_≡_, ap}
+use mathlib.Core.List.{List}
 use Prim.Native.Nat.{ℕ, suc, _≤_}
 use native.Mathlib.Omega.{arith}
-use lib.ListN.{length, length-append}
+use lib.ListN.{length}
 use Rattle.octets.proofs.Numbers.{length-beBytes}
 use Rattle.octets.proofs.Part.{length-part}
 use Rattle.attributes.specs.Attributes.{attributes, any, kindIs}
 use Rattle.signing.specs.Signing.{zeros}
-use Rattle.signing.proofs.Messages.{length-zeros, length-authenticator, length-messageAuthenticator}
+use Rattle.signing.proofs.Messages.{length-authenticator, length-messageAuthenticator}
 use Rattle.causes.specs.declared.Cause.{Cause}
 use Rattle.rules.specs.Packet.{authOf, areaOf}
 use Rattle.rules.specs.Discards.{Sized}
-use Rattle.reply.specs.Reply.{macPart, replyLength, headOf, replyWith, replyMac, replyAuth, replyOf}
+use Rattle.reply.specs.Reply.{bodyOf, macPart, replyLength, headOf, replyWith, replyMac, replyAuth, replyOf}
+use Rattle.reply.proofs.Packets.{valued, packet, packetLength, length-packet}
 
 pub length-auth : (p : List ℕ) (n : ℕ) → Sized p n → length (authOf p) ≡ 16
 length-auth p n z = length-part 4 16 p (omega (arith, z .low, z .given))
@@ -23,17 +23,9 @@ pub length-head : (p : List ℕ) (c : Cause) → length (headOf p c) ≡ 4
 unfolding headOf
 length-head p c = ap (λ (k : ℕ). suc (suc k)) (length-beBytes 2 (replyLength p c))
 
-part-length : (b : Bool) (v w : List ℕ) → length v ≡ length w → length (cond b (80 ∷ 18 ∷ v) []) ≡ length (cond b (80 ∷ 18 ∷ w) [])
-part-length true v w e = ap (λ (k : ℕ). suc (suc k)) e
-part-length false v w e = refl
-
-pub length-macPart : (p mac : List ℕ) → length mac ≡ 16 → length (macPart p mac) ≡ length (macPart p zeros)
-unfolding macPart
-length-macPart p mac e = part-length (any (kindIs 80) (attributes (areaOf p))) mac zeros (e ∙ sym length-zeros)
-
 pub length-replyWith : (p : List ℕ) (c : Cause) (auth mac : List ℕ) → length auth ≡ 16 → length mac ≡ 16 → length (replyWith p c auth mac) ≡ replyLength p c
-unfolding replyWith replyLength
-length-replyWith p c auth mac e g = simp length-append (omega (arith, length-head p c, length-macPart p mac g))
+unfolding replyWith replyLength macPart packet packetLength valued
+length-replyWith p c auth mac e g = length-packet (headOf p c) (bodyOf p c) (any (kindIs 80) (attributes (areaOf p))) auth mac (length-head p c) e g
 
 module _ (secret p : List ℕ) (c : Cause) where
   pub length-replyMac : length (replyMac secret p c) ≡ 16

@@ -2,6 +2,7 @@ pub mod Writes
 pub mod Pieces
 pub mod States
 pub mod Proxies
+pub mod Packets
 pub mod Lengths
 pub mod Sealing
 pub mod Replying

@@ -27,7 +27,6 @@ use Rattle.rules.specs.Packet.{codeOf, identifierOf}
 use Rattle.rules.specs.Verdict.{applies}
 use Rattle.reply.specs.Reply.{asCame, causeOf, replyLength, headOf}
 use Rattle.reply.specs.Rooms.{macRoom}
-use Rattle.reply.proofs.Lengths.{length-head}
 use Rattle.reply.proofs.Writes.{write-two, two-long}
 
 -- v is the value that the reader hands back
@@ -80,22 +79,26 @@ module _ (x : List ℕ) (e : x ≡ []) where
   pub nothing-end : (to : ℕ) → to ≡ to + length x
   nothing-end to = rw e (sym (add-zero to))
 
--- ---- the head
+-- ---- the front
 
-pub head-written : (p auth l t₁ t₂ : List ℕ) (c : Cause) (n k : ℕ) → k ≡ cond (applies c) 2 1 → n ≡ replyLength p c
-    → t₁ ≡ write (set (set l 0 (codeOf p + k)) 1 (identifierOf p)) 2 (beBytes 2 n) → t₂ ≡ write t₁ 4 auth → t₂ ≡ write l 0 (headOf p c ++ auth)
+pub front-written : (auth l t₁ t₂ : List ℕ) (code identifier n : ℕ) → t₁ ≡ write (set (set l 0 code) 1 identifier) 2 (beBytes 2 n) → t₂ ≡ write t₁ 4 auth
+    → t₂ ≡ write l 0 ((code ∷ identifier ∷ beBytes 2 n) ++ auth)
+front-written auth l t₁ t₂ code identifier n e₁ e₂ =
+    let four : 4 ≡ 0 + length (code ∷ identifier ∷ beBytes 2 n) = omega (arith, length-beBytes 2 n) in
+    write-then t₁ t₂ l 0 4 (code ∷ identifier ∷ beBytes 2 n) auth (write-two l t₁ 0 code identifier (beBytes 2 n) e₁) e₂ four
+
+-- of a reply
+pub head-written : (p auth l t : List ℕ) (c : Cause) (n k : ℕ) → k ≡ cond (applies c) 2 1 → n ≡ replyLength p c
+    → t ≡ write l 0 (((codeOf p + k) ∷ identifierOf p ∷ beBytes 2 n) ++ auth) → t ≡ write l 0 (headOf p c ++ auth)
 unfolding headOf
-head-written p auth l t₁ t₂ c n k ek en e₁ e₂ =
-    let w : t₁ ≡ write l 0 (headOf p c) = write-two l t₁ 0 (codeOf p + k) (identifierOf p) (beBytes 2 n) e₁ ∙ rw (ek, en) in
-    let four : 4 ≡ 0 + length (headOf p c) = omega (arith, length-head p c) in
-    write-then t₁ t₂ l 0 4 (headOf p c) auth w e₂ four
+head-written p auth l t c n k ek en e = e ∙ rw (ek, en)
 
-pub head-long : (l t₁ t₂ auth : List ℕ) (i j k m a b : ℕ) (vs : List ℕ) → t₁ ≡ write (set (set l i a) j b) k vs → t₂ ≡ write t₁ m auth → length t₂ ≡ length l
-head-long l t₁ t₂ auth i j k m a b vs e g = write-long t₂ t₁ m auth g ∙ two-long l t₁ i j k a b vs e
+pub front-long : (l t₁ t₂ auth : List ℕ) (i j k m a b : ℕ) (vs : List ℕ) → t₁ ≡ write (set (set l i a) j b) k vs → t₂ ≡ write t₁ m auth → length t₂ ≡ length l
+front-long l t₁ t₂ auth i j k m a b vs e g = write-long t₂ t₁ m auth g ∙ two-long l t₁ i j k a b vs e
 
 -- the authenticator has room behind the first four bytes
-pub head-room : (l t auth : List ℕ) (i j k a b : ℕ) (vs : List ℕ) → t ≡ write (set (set l i a) j b) k vs → 20 ≤ length l → length auth ≡ 16 → 4 + length auth ≤ length t
-head-room l t auth i j k a b vs e h g = omega (arith, two-long l t i j k a b vs e)
+pub front-room : (l t auth : List ℕ) (i j k a b : ℕ) (vs : List ℕ) → t ≡ write (set (set l i a) j b) k vs → 20 ≤ length l → length auth ≡ 16 → 4 + length auth ≤ length t
+front-room l t auth i j k a b vs e h g = omega (arith, two-long l t i j k a b vs e)
 
 -- the code plus 1 or 2 is a byte
 pub code-fits : (b : Bool) (code k : ℕ) → k ≡ cond b 2 1 → code < 64 → Fits w8 (code + k)

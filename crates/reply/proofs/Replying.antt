@@ -19,10 +19,11 @@ use Rattle.causes.specs.declared.Cause.{Cause}
 use Rattle.rules.specs.Packet.{codeOf, authOf, areaOf}
 use Rattle.rules.specs.Discards.{formOf, badLength, badCode, badAttributes, Sized}
 use Rattle.rules.proofs.Verdicts.{area-of}
-use Rattle.reply.specs.Reply.{stateOf, causeOf, proxiesOf, bodyOf, macPart, replyLength, headOf, replyWith, replyOf}
+use Rattle.reply.specs.Reply.{stateOf, causeOf, proxiesOf, bodyOf, macPart, replyLength, headOf, replyWith, replyMac, replyAuth, replyOf}
 use Rattle.reply.specs.Rooms.{macRoom, withMac}
 use Rattle.reply.proofs.Writes.{write-before}
 use Rattle.reply.proofs.Lengths.{length-auth, length-head}
+use Rattle.reply.proofs.Packets.{valued, packet, packetLength, packetMac, packetAuth, signedPacket}
 use Rattle.reply.proofs.Sealing.{sealed}
 
 -- a request's code is 40 or 43
@@ -70,10 +71,11 @@ module _ (p s : List ℕ) (n : ℕ) (c : Cause) (sized : Sized p n) (area : s �
       pub replied : (secret auth l t₁ t₂ t₃ t₄ t₅ : List ℕ) → auth ≡ part 4 16 p → replyLength p c ≤ 4096 → 4096 ≤ length l
           → t₁ ≡ write l 20 (stateOf s ++ causeOf c ++ proxiesOf s) → t₂ ≡ write t₁ b (macRoom present) → t₃ ≡ write t₂ 0 (headOf p c ++ auth)
           → t₄ ≡ withMac present auth t₃ e secret → t₅ ≡ write t₄ 4 (authenticator auth t₄ e secret) → t₅ ≡ write l 0 (replyOf secret p c)
-      unfolding replyWith
+      unfolding replyWith replyLength replyMac replyAuth replyOf macPart packet packetLength valued packetMac packetAuth signedPacket
       replied secret auth l t₁ t₂ t₃ t₄ t₅ ea h g e₁ e₂ e₃ e₄ e₅ =
           let w₂ : t₂ ≡ write l 20 (bodyOf p c ++ macPart p zeros) = write-then t₁ t₂ l 20 b (bodyOf p c) (macPart p zeros) (e₁ ∙ rw body-is) (e₂ ∙ rw room-is) (hb ∙ rw body-is) in
           let front : 20 ≡ 0 + length (headOf p c ++ auth) = omega (arith, length-append (headOf p c) auth, length-head p c, auth-long p auth n sized ea) in
           let w₃ : t₃ ≡ write l 0 (replyWith p c (authOf p) zeros) =
           write-before t₂ t₃ l 0 20 (headOf p c ++ auth) (bodyOf p c ++ macPart p zeros) w₂ e₃ front ∙ rw (ea, ← (append-assoc (headOf p c ++ authOf p))) in
-          sealed secret p n c sized l (omega arith) present t₃ t₄ t₅ present-is w₃ (e₄ ∙ rw (ea, end-is)) (e₅ ∙ rw (ea, end-is))
+          sealed secret (authOf p) (headOf p c) (bodyOf p c) l (any (kindIs 80) (attributes (areaOf p))) (length-head p c) (length-auth p n sized) (omega arith)
+          present t₃ t₄ t₅ present-is w₃ (e₄ ∙ rw (ea, end-is)) (e₅ ∙ rw (ea, end-is))

@@ -1,7 +1,7 @@
 // The parts of a reply, each written behind the one before; the head comes last, since it tells the length.
 ghost use mathlib.Core.Path.{_≡_};
 ghost use mathlib.Core.Bool.{cond};
-ghost use mathlib.Core.List.{_∷_, _++_};
+ghost use mathlib.Core.List.{_++_};
 ghost use Prim.Native.Nat.{_+_, _≤_, _<_};
 ghost use lib.ListN.{length};
 ghost use Rattle.octets.specs.Runs.{write};
@@ -11,7 +11,8 @@ ghost use Rattle.survey.specs.Survey.{Surveyed};
 ghost use Rattle.rules.specs.Packet.{codeOf};
 ghost use Rattle.rules.specs.Verdict.{applies};
 ghost use Rattle.reply.specs.Reply.{asCame, stateOf, causeOf, proxiesOf, replyLength, headOf};
-ghost use Rattle.reply.specs.Rooms.{macRoom};
+use crate::frame;
+use crate::frame::put;
 use attributes::Attribute;
 use causes::Cause;
 
@@ -35,18 +36,6 @@ fn applies(cause: Cause) -> bool
         Cause::SessionNotFound => true,
         Cause::ResourcesUnavailable => true,
     }
-}
-
-// An attribute: type, length, value. Returns the place behind it.
-fn put(t: &mut [u8], to: usize, kind: u8, size: u8, v: &[u8]) -> usize
-    requires { ⌜ to + length (kind ∷ size ∷ now v) ≤ length (now t) ⌝ }
-    ensures { λ r. ⌜ now (t .exit) ≡ write (now (t .entry)) to (kind ∷ size ∷ now (v .entry)) ⌝ }
-    ensures { λ r. ⌜ r ≡ to + length (kind ∷ size ∷ now (v .entry)) ⌝ }
-{
-    t[to] = kind;
-    t[to + 1] = size;
-    octets::copy(t, to + 2, v);
-    to + 2 + v.len()
 }
 
 // An attribute of the area s as it came, its value as the reader hands it back.
@@ -144,19 +133,6 @@ pub fn put_body(
     put_proxies(t, to, s)
 }
 
-// Type 80 with zeros for its value, if the request had one.
-pub fn put_room(t: &mut [u8], to: usize, present: bool) -> usize
-    requires { ⌜ to + length (macRoom «present») ≤ length (now t) ⌝ }
-    ensures { λ r. ⌜ now (t .exit) ≡ write (now (t .entry)) to (macRoom «present») ⌝ }
-    ensures { λ r. ⌜ r ≡ to + length (macRoom «present») ⌝ }
-{
-    if present {
-        let zero = [0u8; 16];
-        return put(t, to, 80, 18, &zero);
-    }
-    to
-}
-
 // What an ACK or NAK adds to the request's code.
 fn added(cause: Cause) -> u8
     ensures { λ r. ⌜ r ≡ cond (applies cause) 2 1 ⌝ }
@@ -173,8 +149,5 @@ pub fn put_head(t: &mut [u8], p: &[u8], cause: Cause, n: usize, auth: &[u8])
     requires { ⌜ (n ≡ replyLength (now p) cause) × (n ≤ 4096) ⌝ }
     ensures { λ _. ⌜ now (t .exit) ≡ write (now (t .entry)) 0 (headOf (now (p .entry)) cause ++ now (auth .entry)) ⌝ }
 {
-    t[0] = p[0] + added(cause);
-    t[1] = p[1];
-    octets::put_be16(&mut *t, 2, n as u16);
-    octets::copy(t, 4, auth);
+    frame::put_front(t, p[0] + added(cause), p[1], n, auth);
 }

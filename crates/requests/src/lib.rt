@@ -31,7 +31,7 @@ pub fn write_request(
     ensures { λ r. ⌜ r ≡ writeAnswer (now (secret .entry)) (now (out .entry)) (draft code identifier (now (given .entry)) «add») ⌝ }
     ensures { λ r. ⌜ now (out .exit) ≡ writeOutput (now (secret .entry)) (now (out .entry)) (draft code identifier (now (given .entry)) «add») ⌝ }
 {
-    let n = writing::refusal(code, identifier, given, add, secret, out);
+    let n = writing::refusal(code, given, add, secret, &*out);
     if n != 0 {
         return Written::NotWritten(n);
     }

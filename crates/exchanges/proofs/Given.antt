@@ -1,0 +1,63 @@
+-- A request reads back as given: its attributes are those given, each at its place, and behind them type 80 where it was to be added, whose value is the Message-Authenticator.
+-- Assumes nothing.
+use mathlib.Core.Path.{_≡_, refl, sym, ap, _∙_}
+use mathlib.Core.Bool.{Bool, true, false, cond}
+use mathlib.Core.List.{List, [], _∷_, _++_}
+use Prim.Native.Nat.{ℕ, _+_}
+use native.Mathlib.Nat.{add-zero}
+use native.Mathlib.Omega.{arith}
+use lib.ListN.{length}
+use Rattle.attributes.specs.declared.Attribute.{Attribute}
+use Rattle.attributes.specs.Attributes.{attributes, valueOf}
+use Rattle.signing.specs.Signing.{zeros}
+use Rattle.signing.proofs.Messages.{length-messageAuthenticator}
+use Rattle.rules.specs.Packet.{areaOf}
+use Rattle.reply.proofs.Packets.{valued, packet, packetLength, packetMac}
+use Rattle.replies.proofs.Readback.{signed-area}
+use Rattle.replies.proofs.Trailing.{trailing, trailer, trailing-attributes, trailing-value}
+use Rattle.requests.specs.Writer.{Draft, badGiven, macAdded, writeRefusal, requestLength, requestWith, requestMac, requestOf}
+use Rattle.requests.proofs.Refusals.{taken}
+use Rattle.exchanges.proofs.Requests.{request-is, length-is, plain-given, request-short}
+
+-- type 80 of length 18, behind the attributes given
+abbrev pub added : Draft → Attribute
+added d = record { kind = 80; at = length (d .given); size = 18 }
+
+length-requestMac : (secret : List ℕ) (d : Draft) → length (requestMac secret d) ≡ 16
+unfolding requestMac
+length-requestMac secret d = length-messageAuthenticator _ _ _ _ _
+
+added-is : (d : Draft) (mac : List ℕ) → length mac ≡ 16 → trailing (d .given) mac ≡ added d
+added-is d mac h = let e : length mac + 2 ≡ 18 = omega arith in rw (e, add-zero)
+
+trailer-is : (b : Bool) (d : Draft) (mac : List ℕ) → length mac ≡ 16 → trailer b (d .given) mac ≡ cond b (added d ∷ []) []
+trailer-is true d mac h = ap (λ (a : Attribute). a ∷ []) (added-is d mac h)
+trailer-is false d mac h = refl
+
+mac-added : (d : Draft) (mac : List ℕ) → macAdded d mac ≡ valued (d .add) mac
+unfolding macAdded valued
+mac-added d mac = refl
+
+module _ (secret out : List ℕ) (d : Draft) (accepted : writeRefusal secret out d ≡ 0) where
+  given : badGiven d ≡ false
+  given = taken secret out d accepted .given
+
+  pub written-area : areaOf (requestOf secret d) ≡ d .given ++ macAdded d (requestMac secret d)
+  unfolding macAdded requestLength requestWith requestMac valued packet packetLength packetMac
+  written-area = rw (request-is secret d) (signed-area secret zeros (d .given) (d .add) (d .code) (d .identifier) (requestLength d) (length-is d) (request-short d given))
+
+  pub written-attributes : attributes (areaOf (requestOf secret d)) ≡ attributes (d .given) ++ cond (d .add) (added d ∷ []) []
+  written-attributes =
+      let mac = requestMac secret d in
+      let long = length-requestMac secret d in
+      ap attributes (written-area ∙ ap (λ (s : List ℕ). d .given ++ s) (mac-added d mac))
+      ∙ trailing-attributes (d .given) mac (plain-given d given) long (d .add)
+      ∙ ap (λ (l : List Attribute). attributes (d .given) ++ l) (trailer-is (d .add) d mac long)
+
+  pub written-value : d .add ≡ true → valueOf (areaOf (requestOf secret d)) (added d) ≡ requestMac secret d
+  written-value h =
+      let mac = requestMac secret d in
+      let long = length-requestMac secret d in
+      ap (λ (s : List ℕ). valueOf s (added d)) (written-area ∙ ap (λ (s : List ℕ). d .given ++ s) (mac-added d mac ∙ ap (λ (b : Bool). valued b mac) h))
+      ∙ ap (valueOf (d .given ++ valued true mac)) (sym (added-is d mac long))
+      ∙ trailing-value (d .given) mac (plain-given d given) long

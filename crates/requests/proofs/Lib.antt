@@ -1,0 +1,4 @@
+pub mod Areas
+pub mod Refusals
+pub mod Requesting
+pub mod Failures

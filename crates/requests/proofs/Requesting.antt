@@ -1,0 +1,78 @@
+-- What the calls of `put_request` ask and leave: R13 says that the attributes and type 80 have room, and the end of the last part is the request's length.
+-- Assumes nothing.
+use mathlib.Core.Path.{_≡_, refl, _∙_}
+use mathlib.Core.Bool.{Bool, true, false, cond, not, _||_, false≢true}
+use mathlib.Core.List.{List, [], _∷_, _++_, append-assoc}
+use Prim.Native.Nat.{ℕ, _+_, _≤_}
+use native.Mathlib.Omega.{arith}
+use borrow.Author.Tests.{ltb-false}
+use lib.Dec.{ltb}
+use lib.ListN.{length, length-append, replicate}
+use Rattle.octets.specs.Numbers.{beBytes}
+use Rattle.octets.specs.Runs.{write}
+use Rattle.octets.proofs.Numbers.{length-beBytes}
+use Rattle.octets.proofs.Write.{write-then}
+use Rattle.attributes.specs.Attributes.{attributes, tiled, any, kindIs}
+use Rattle.signing.specs.Signing.{zeros, authenticator}
+use Rattle.signing.proofs.Messages.{length-zeros}
+use Rattle.reply.specs.Rooms.{macRoom, withMac}
+use Rattle.reply.proofs.Writes.{write-before}
+use Rattle.reply.proofs.Packets.{valued, packet, packetLength, packetMac, packetAuth, signedPacket}
+use Rattle.reply.proofs.Sealing.{sealed}
+use Rattle.requests.specs.Writer.{draft, badGiven, macAdded, requestLength, requestWith, requestMac, requestAuth, requestOf}
+
+-- R13 does not apply: the attributes have room, type 80 with them
+long-case : (n : ℕ) (add x y z : Bool) → ltb (cond add 4058 4076) n ≡ z → (x || (y || z)) ≡ false → n + length (cond add (80 ∷ 18 ∷ zeros) []) ≤ 4076
+long-case n true false false false e h = omega (arith, length-zeros, ltb-false 4058 n e)
+long-case n false false false false e h = omega (arith, ltb-false 4076 n e)
+long-case n add true y z e h = absurd (false≢true (rw (← h)))
+long-case n add false true z e h = absurd (false≢true (rw (← h)))
+long-case n add false false true e h = absurd (false≢true (rw (← h)))
+
+module _ (g : List ℕ) (code identifier : ℕ) (add : Bool) (good : badGiven (draft code identifier g add) ≡ false) where
+  pub given-short : length g + length (macRoom add) ≤ 4076
+  unfolding badGiven macRoom
+  given-short = long-case (length g) add (not (tiled g)) (any (kindIs 80) (attributes g)) _ refl good
+
+  pub copy-fits : (m : ℕ) → 4096 ≤ m → 20 + length g ≤ m
+  copy-fits m h = omega (arith, given-short)
+
+  pub room-fits : (m k : ℕ) → 4096 ≤ m → k ≡ m → 20 + length g + length (macRoom add) ≤ k
+  room-fits m k h e = omega (arith, given-short)
+
+  -- e is the end of the last part
+  module _ (e : ℕ) (he : e ≡ 20 + length g + length (macRoom add)) where
+    pub end-low : 20 + length (macRoom add) ≤ e
+    end-low = omega arith
+
+    pub end-high : e ≤ 4096
+    end-high = omega (arith, given-short)
+
+    pub end-fits : (m k₁ k₂ k₃ : ℕ) → 4096 ≤ m → k₁ ≡ m → k₂ ≡ k₁ → k₃ ≡ k₂ → e ≤ k₃
+    end-fits m k₁ k₂ k₃ room e₁ e₂ e₃ = omega (arith, end-high)
+
+    pub end-is : e ≡ requestLength (draft code identifier g add)
+    unfolding requestLength macRoom macAdded
+    end-is = he
+
+    -- l is the buffer before the calls
+    pub requested : (secret l t₁ t₂ t₃ t₄ : List ℕ) → 4096 ≤ length l → t₁ ≡ write l 20 g → t₂ ≡ write t₁ (20 + length g) (macRoom add)
+        → t₃ ≡ write t₂ 0 ((code ∷ identifier ∷ beBytes 2 e) ++ replicate 16 0)
+        → t₄ ≡ write (withMac add zeros t₃ e secret) 4 (authenticator zeros (withMac add zeros t₃ e secret) e secret)
+        → t₄ ≡ write l 0 (requestOf secret (draft code identifier g add))
+    unfolding zeros macRoom macAdded requestLength requestWith requestMac requestAuth requestOf packet packetLength valued packetMac packetAuth signedPacket
+    requested secret l t₁ t₂ t₃ t₄ h e₁ e₂ e₃ e₄ =
+        let head = code ∷ identifier ∷ beBytes 2 (requestLength (draft code identifier g add)) in
+        let four : length head ≡ 4 = omega (arith, length-beBytes 2 (requestLength (draft code identifier g add))) in
+        let w₂ : t₂ ≡ write l 20 (g ++ valued add zeros) = write-then t₁ t₂ l 20 (20 + length g) g (valued add zeros) e₁ e₂ refl in
+        let front : 20 ≡ 0 + length (head ++ zeros) = omega (arith, length-append head zeros, length-zeros) in
+        let w₃ : t₃ ≡ write l 0 (packet head g add zeros zeros) =
+        write-before t₂ t₃ l 0 20 (head ++ zeros) (g ++ valued add zeros) w₂ (e₃ ∙ rw end-is) front ∙ rw (← (append-assoc (head ++ zeros))) in
+        let short = given-short in
+        sealed secret zeros head g l add four length-zeros (omega arith) add t₃ (withMac add zeros t₃ e secret) t₄ refl w₃ (rw he) (e₄ ∙ rw he)
+
+-- the two signatures over the sixteen zeros z
+pub seals-over : (z t t₁ t₂ secret : List ℕ) (add : Bool) (n : ℕ) → z ≡ replicate 16 0 → t₁ ≡ withMac add z t n secret → t₂ ≡ write t₁ 4 (authenticator z t₁ n secret)
+    → t₂ ≡ write (withMac add zeros t n secret) 4 (authenticator zeros (withMac add zeros t n secret) n secret)
+unfolding zeros
+seals-over z t t₁ t₂ secret add n e e₁ e₂ = e₂ ∙ rw (e₁, e)
