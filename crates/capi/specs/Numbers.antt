@@ -1,11 +1,15 @@
--- Answers as numbers for C: 0 acknowledged; 1 to 99 refused, document 01's R number; 100 + n discarded by Dn; 401 to 599 NAK with that Error-Cause.
--- Beside them go four numbers, which a refusal leaves as they were.
+-- Answers as numbers for C: 0 acknowledged or done; 1 to 99 refused, document 01's R number; 100 + n discarded by Dn; 200 + n failed Vn; 401 to 599 NAK with
+-- that Error-Cause. Beside them go numbers which a refusal leaves as they were.
 -- Assumes nothing.
 use Prim.Native.Nat.{ℕ, _+_}
 use lib.IntN.{ℤ, pos}
 use Rattle.causes.specs.Causes.{errorCause}
 use Rattle.answers.specs.declared.Answer as D
 use Rattle.answers.specs.declared.Answer.the-variants.{Refused, Discarded, Stale, Nak, Ack}
+use Rattle.requests.specs.declared.Written as W
+use Rattle.requests.specs.declared.Written.the-variants.{Done, NotWritten}
+use Rattle.requests.specs.declared.Checked as C
+use Rattle.requests.specs.declared.Checked.the-variants.{Right, Failed, NotChecked}
 
 unfoldable pub numberOf : D.Answer → ℕ
 numberOf (Refused n) = n
@@ -44,3 +48,18 @@ stampedBy (Discarded d) old = 0
 stampedBy (Stale skew) old = 1
 stampedBy (Nak c skew n) old = 1
 stampedBy (Ack k skew n) old = 1
+
+-- a request written: 0, and its length; or document 01's R number, and the length as it was
+unfoldable pub writtenNumber : W.Written → ℕ
+writtenNumber (Done n) = 0
+writtenNumber (NotWritten r) = r
+
+unfoldable pub writtenLength : W.Written → ℕ → ℕ
+writtenLength (Done n) old = n
+writtenLength (NotWritten r) old = old
+
+-- a reply checked: 0 right; 200 + n failed by Vn; else the R number
+unfoldable pub checkedNumber : C.Checked → ℕ
+checkedNumber Right = 0
+checkedNumber (Failed v) = 200 + v
+checkedNumber (NotChecked r) = r

@@ -1,10 +1,15 @@
 // The library as C calls it: numbers and byte runs. Nothing is decided here.
+mod exchange; // exchange.rt: a request written, a reply checked, as numbers
 mod numbers; // numbers.rt: an answer as numbers
 
 ghost use mathlib.Core.Path.{_≡_};
+ghost use mathlib.Core.Bool.{not};
+ghost use lib.Dec.{eqb};
 ghost use Rattle.rules.specs.Settings.{settings};
 ghost use Rattle.handler.specs.Handle.{handleAnswer, handleTable, handleReply};
-ghost use Rattle.capi.specs.Numbers.{numberOf, changedBy, lengthBy, skewBy, stampedBy};
+ghost use Rattle.requests.specs.Writer.{draft, writeAnswer, writeOutput};
+ghost use Rattle.requests.specs.ReplyCheck.{checkAnswer};
+ghost use Rattle.capi.specs.Numbers.{numberOf, changedBy, lengthBy, skewBy, stampedBy, writtenNumber, writtenLength, checkedNumber};
 
 // Handles a request.
 #[no_mangle]
@@ -35,4 +40,32 @@ pub extern "C" fn fbk_handle(
     *skew = numbers::skew(a, *skew);
     *stamped = numbers::stamped(a, *stamped);
     numbers::number(a)
+}
+
+// Writes a request.
+#[no_mangle]
+pub extern "C" fn fbk_write(
+    code: u32,
+    identifier: u8,
+    given: &[u8],
+    add: u32,
+    secret: &[u8],
+    out: &mut [u8],
+    size: &mut u32,
+) -> u32
+    ensures { λ r. ⌜ r ≡ writtenNumber (writeAnswer (now (secret .entry)) (now (out .entry)) (draft code identifier (now (given .entry)) (not (eqb add 0)))) ⌝ }
+    ensures { λ _. ⌜ now (out .exit) ≡ writeOutput (now (secret .entry)) (now (out .entry)) (draft code identifier (now (given .entry)) (not (eqb add 0))) ⌝ }
+    ensures { λ _. ⌜ now (size .exit) ≡ writtenLength (writeAnswer (now (secret .entry)) (now (out .entry)) (draft code identifier (now (given .entry)) (not (eqb add 0)))) (now (size .entry)) ⌝ }
+{
+    let w = requests::write_request(code, identifier, given, add != 0, secret, out);
+    *size = exchange::written_length(w, *size);
+    exchange::written_number(w)
+}
+
+// Checks a reply.
+#[no_mangle]
+pub extern "C" fn fbk_check_reply(secret: &[u8], request: &[u8], reply: &[u8]) -> u32
+    ensures { λ r. ⌜ r ≡ checkedNumber (checkAnswer (now (secret .entry)) (now (request .entry)) (now (reply .entry))) ⌝ }
+{
+    exchange::checked_number(requests::check_reply(secret, request, reply))
 }

@@ -49,6 +49,9 @@ module _ (secret out : List ℕ) (d : Draft) (accepted : writeRefusal secret out
   given : badGiven d ≡ false
   given = taken secret out d accepted .given
 
+  pub written-short : requestLength d ≤ 4096
+  written-short = request-short d given
+
   -- D1 to D3
   pub written-form : formOf (requestOf secret d) ≡ 0
   unfolding formOf badCode

@@ -1,0 +1,73 @@
+-- The writer's and the reply check's answers as numbers, case by case. A request is at most 4,096 bytes long.
+-- Assumes nothing.
+use mathlib.Core.Path.{_≡_, refl, ap, _∙_}
+use mathlib.Core.Bool.{Bool, true, false, cond}
+use mathlib.Core.List.{List}
+use Prim.Native.Nat.{ℕ, _+_, _<_}
+use native.Mathlib.Omega.{arith}
+use borrow.Author.Tests.{eqb-true}
+use lib.Dec.{eqb}
+use Rattle.requests.specs.declared.Written as W
+use Rattle.requests.specs.declared.Written.the-variants.{Done, NotWritten}
+use Rattle.requests.specs.declared.Checked as C
+use Rattle.requests.specs.declared.Checked.the-variants.{Right, Failed, NotChecked}
+use Rattle.requests.specs.Writer.{Draft, writeRefusal, requestLength, writeAnswer}
+use Rattle.requests.specs.ReplyCheck.{checkAnswer}
+use Rattle.exchanges.proofs.Requests.{written-short}
+use Rattle.capi.specs.Numbers.{writtenNumber, writtenLength, checkedNumber}
+
+module _ (w : W.Written) (n : ℕ) (e : w ≡ Done n) where
+  pub done-number : 0 ≡ writtenNumber w
+  unfolding writtenNumber
+  done-number = rw e
+
+  pub done-length : (v old : ℕ) → v ≡ n → v ≡ writtenLength w old
+  unfolding writtenLength
+  done-length v old h = h ∙ rw e
+
+  pub done-fits : writtenLength w 0 < 4294967296 → n < 4294967296
+  unfolding writtenLength
+  done-fits h = rw e at h
+
+module _ (w : W.Written) (r : ℕ) (e : w ≡ NotWritten r) where
+  pub unwritten-number : (v : ℕ) → v ≡ r → v ≡ writtenNumber w
+  unfolding writtenNumber
+  unwritten-number v h = h ∙ rw e
+
+  pub unwritten-length : (old : ℕ) → old ≡ writtenLength w old
+  unfolding writtenLength
+  unwritten-length old = rw e
+
+pub right-number : (c : C.Checked) → c ≡ Right → 0 ≡ checkedNumber c
+unfolding checkedNumber
+right-number c e = rw e
+
+pub failed-number : (c : C.Checked) (n v : ℕ) → c ≡ Failed n → v ≡ 200 + n → v ≡ checkedNumber c
+unfolding checkedNumber
+failed-number c n v e h = h ∙ rw e
+
+pub unchecked-number : (c : C.Checked) (n v : ℕ) → c ≡ NotChecked n → v ≡ n → v ≡ checkedNumber c
+unfolding checkedNumber
+unchecked-number c n v e h = h ∙ rw e
+
+-- ---- of the definitions' answers
+
+by-refusal : (b : Bool) (n r : ℕ) → (b ≡ true → n < 4294967296) → writtenLength (cond b (Done n) (NotWritten r)) 0 < 4294967296
+unfolding writtenLength
+by-refusal true n r h = h refl
+by-refusal false n r h = omega arith
+
+module _ (secret out : List ℕ) (d : Draft) (w : W.Written) (is : w ≡ writeAnswer secret out d) where
+  pub written-fits : writtenLength w 0 < 4294967296
+  unfolding writeAnswer
+  written-fits =
+      rw is (by-refusal (eqb (writeRefusal secret out d) 0) (requestLength d) (writeRefusal secret out d) (λ h. omega (arith, written-short secret out d (eqb-true _ _ h))))
+
+  pub told-written : (v : ℕ) → v ≡ writtenNumber w → v ≡ writtenNumber (writeAnswer secret out d)
+  told-written v h = h ∙ ap writtenNumber is
+
+  pub told-written-length : (v old : ℕ) → v ≡ writtenLength w old → v ≡ writtenLength (writeAnswer secret out d) old
+  told-written-length v old h = h ∙ rw is
+
+pub told-checked : (secret q r : List ℕ) (c : C.Checked) (v : ℕ) → c ≡ checkAnswer secret q r → v ≡ checkedNumber c → v ≡ checkedNumber (checkAnswer secret q r)
+told-checked secret q r c v is h = h ∙ ap checkedNumber is
