@@ -85,7 +85,7 @@ module _ (g : Settings) (p : List ℕ) (clock : ℕ) (x : R.Verdict) (is : x ≡
   passed-short n c k e sized = short n c sized (ap answered e)
 
   -- what no cause leaves: lengths that fit, and no type but 33 twice
-  uncaused : (k : ℤ) → x ≡ J.Passed k → causeOf (codeOf p) (g .address) (g .name) (areaOf p) ≡ K.NoCause
+  pub uncaused : (k : ℤ) → x ≡ J.Passed k → causeOf (codeOf p) (g .address) (g .name) (areaOf p) ≡ K.NoCause
   uncaused k e = let r = reached g p clock x (ap answered e) is in passed-cause g p k (skewOf (r .stamp) clock) (sym e ∙ r .is)
 
   pub passed-misfit : (k : ℤ) → x ≡ J.Passed k → any misfitting (attributes (areaOf p)) ≡ false

@@ -1,0 +1,3 @@
+pub mod Replied
+pub mod Acked
+pub mod Second

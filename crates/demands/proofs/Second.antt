@@ -1,0 +1,144 @@
+-- Demand 2: the definitions say it, and the laws of the handler, the replies, the effects and the exchanges give each field.
+-- Assumes nothing.
+use mathlib.Core.Path.{_≡_, refl, sym, ap, _∙_}
+use mathlib.Core.Bool.{true, false, true≢false}
+use mathlib.Core.List.{List}
+use Prim.Native.Nat.{ℕ, _≤_, _<_}
+use native.Mathlib.Omega.{arith}
+use borrow.Author.Tests.{eq-eqb, ne-eqb}
+use lib.IntN.{ℤ}
+use lib.ListN.{getD}
+use mir.Syntax.{w8}
+use mir.Val.{Fits}
+use Rattle.slots.specs.Slot.{slotCount, slot, live}
+use Rattle.causes.specs.declared.Cause.{Cause}
+use Rattle.causes.proofs.Passed.{filter-first}
+use Rattle.rules.specs.Packet.{codeOf, lengthOf, areaOf}
+use Rattle.rules.specs.Settings.{Settings}
+use Rattle.rules.specs.Verdict.{verdictOf}
+use Rattle.rules.specs.Discards.{signedBy}
+use Rattle.reply.specs.Reply.{bodyOf, replyOf, replyLength}
+use Rattle.replies.proofs.Back.{reply-identifier, reply-area}
+use Rattle.effects.specs.Matching.{matchesIn}
+use Rattle.effects.specs.Changes.{changeMatching}
+use Rattle.effects.proofs.Outcomes.{slot-other, ended-after}
+use Rattle.effects.proofs.Altered as E
+use Rattle.answers.specs.declared.Answer as D
+use Rattle.answers.specs.declared.Answer.the-variants as A
+use Rattle.answers.specs.Replies.{replyAs}
+use Rattle.handler.specs.Refusals.{refusalOf}
+use Rattle.handler.specs.Handle.{answerOf, tableAs, handleAnswer, handleTable, handleReply}
+use Rattle.handler.proofs.Bounds.{reply-bound}
+use Rattle.handler.proofs.Bounds as B
+use Rattle.exchanges.proofs.Answered.{reply-passes}
+use Rattle.exchanges.proofs.Requests.{written-form, written-signed, written-maced}
+use Rattle.demands.specs.Answers.{silent, replySize}
+use Rattle.demands.specs.Demand2.{Bytes, Altered, Carries, Demand2}
+use Rattle.demands.proofs.Replied.{formed}
+use Rattle.demands.proofs.Acked.{acked}
+
+silent-table-by : (p t : List ℕ) (a : D.Answer) → silent a ≡ true → tableAs p t a ≡ t
+silent-table-by p t (A.Refused n) h = refl
+silent-table-by p t (A.Discarded d) h = refl
+silent-table-by p t (A.Stale k) h = refl
+silent-table-by p t (A.Nak c k n) h = refl
+silent-table-by p t (A.Ack m k n) h = absurd (true≢false (sym h))
+
+silent-reply-by : (secret p b : List ℕ) (a : D.Answer) → silent a ≡ true → replyAs secret p b a ≡ b
+silent-reply-by secret p b (A.Refused n) h = refl
+silent-reply-by secret p b (A.Discarded d) h = refl
+silent-reply-by secret p b (A.Stale k) h = refl
+silent-reply-by secret p b (A.Nak c k n) h = absurd (true≢false (sym h))
+silent-reply-by secret p b (A.Ack m k n) h = absurd (true≢false (sym h))
+
+others-by : (p t : List ℕ) (k : ℕ) (a : D.Answer) → k < slotCount t → matchesIn (areaOf p) t k ≡ false → slot k (tableAs p t a) ≡ slot k t
+others-by p t k (A.Refused n) l h = refl
+others-by p t k (A.Discarded d) l h = refl
+others-by p t k (A.Stale s) l h = refl
+others-by p t k (A.Nak c s n) l h = refl
+others-by p t k (A.Ack m s n) l h = slot-other (codeOf p) (areaOf p) t k l h
+
+fits-byte : (l : List ℕ) → Bytes l → (i : ℕ) → Fits w8 (getD l i 0)
+fits-byte l h i = record { fits = h i }
+
+module _ (g : Settings) (t b p : List ℕ) (clock : ℕ) where
+  table-of : (a : D.Answer) → handleAnswer g t b p clock ≡ a → handleTable g t b p clock ≡ tableAs p t a
+  unfolding handleTable
+  table-of a e = ap (tableAs p t) e
+
+  reply-of : (a : D.Answer) → handleAnswer g t b p clock ≡ a → handleReply g t b p clock ≡ replyAs (g .secret) p b a
+  unfolding handleReply
+  reply-of a e = ap (replyAs (g .secret) p b) e
+
+  refused : (refusalOf g t b ≡ 0 → ⊥) → handleAnswer g t b p clock ≡ A.Refused (refusalOf g t b)
+  unfolding handleAnswer
+  refused h = rw (ne-eqb _ _ h)
+
+  judged : refusalOf g t b ≡ 0 → handleAnswer g t b p clock ≡ answerOf p t (verdictOf g (signedBy (g .secret) p) p clock)
+  unfolding handleAnswer
+  judged h = rw (eq-eqb _ _ h)
+
+  carries : silent (handleAnswer g t b p clock) ≡ false → (c : Cause) → Carries (g .secret) p (replyOf (g .secret) p c) c
+  unfolding bodyOf
+  carries h c =
+      let f = formed g t b p clock h in
+      let short : replyLength p c ≤ 4096 = omega (arith, f .room c, f .sized .high) in
+      record {
+        identifier = reply-identifier (g .secret) p c;
+        body = reply-area (g .secret) p c short;
+        passes = reply-passes (g .secret) p (lengthOf p) c (f .sized) short (f .form);
+      }
+
+  module _ (m n : ℕ) (skew : ℤ) (ack : handleAnswer g t b p clock ≡ A.Ack m skew n) (k : ℕ) (l : k < slotCount t) (h : matchesIn (areaOf p) t k ≡ true) where
+    after : (code : ℕ) → codeOf p ≡ code → handleTable g t b p clock ≡ changeMatching code (areaOf p) t
+    after code e = table-of (A.Ack m skew n) ack ∙ rw e
+
+    ended : codeOf p ≡ 40 → live (slot k (handleTable g t b p clock)) ≡ false
+    ended e = rw (after 40 e) (ended-after (areaOf p) t k l h)
+
+    altered-to : Altered (areaOf p) (slot k t) (slot k (changeMatching 43 (areaOf p) t))
+    altered-to =
+        let no-cause = acked g t p clock m n skew b ack .uncaused-by in
+        record {
+          timeout = λ a e y. E.timeout-after (areaOf p) t k l h a e (fits-byte (areaOf p) y);
+          timeout-same = λ e. E.timeout-same (areaOf p) t k l h e;
+          idle = λ a e y. E.idle-after (areaOf p) t k l h a e (fits-byte (areaOf p) y);
+          idle-same = λ e. E.idle-same (areaOf p) t k l h e;
+          filter = λ a e. E.filter-after (areaOf p) t k l h a e (filter-first (codeOf p) (g .address) (g .name) (areaOf p) no-cause 11 a e refl);
+          filter-same = λ e. E.filter-same (areaOf p) t k l h e;
+          port-same = E.port-same (areaOf p) t k l h;
+          address-same = E.address-same (areaOf p) t k l h;
+          user-same = E.user-same (areaOf p) t k l h;
+          id-same = E.id-same (areaOf p) t k l h;
+          station-same = E.station-same (areaOf p) t k l h;
+          still-live = E.live-after (areaOf p) t k l h;
+        }
+
+    altered : codeOf p ≡ 43 → Altered (areaOf p) (slot k t) (slot k (handleTable g t b p clock))
+    altered e = rw (after 43 e) altered-to
+
+size-is : (a : D.Answer) → replySize a ≡ B.replySize a
+size-is (A.Refused n) = refl
+size-is (A.Discarded d) = refl
+size-is (A.Stale k) = refl
+size-is (A.Nak c k n) = refl
+size-is (A.Ack m k n) = refl
+
+pub demand2 : (g : Settings) (t b p : List ℕ) (clock : ℕ) → Demand2 g t b p clock
+demand2 g t b p clock =
+    record {
+      refused = refused g t b p clock;
+      judged = judged g t b p clock;
+      silent-table = λ h. table-of g t b p clock (handleAnswer g t b p clock) refl ∙ silent-table-by p t (handleAnswer g t b p clock) h;
+      silent-reply = λ h. reply-of g t b p clock (handleAnswer g t b p clock) refl ∙ silent-reply-by (g .secret) p b (handleAnswer g t b p clock) h;
+      nak-table = λ c skew n e. table-of g t b p clock (A.Nak c skew n) e;
+      nak-reply = λ c skew n e. reply-of g t b p clock (A.Nak c skew n) e;
+      ack-reply = λ m skew n e. reply-of g t b p clock (A.Ack m skew n) e;
+      never-longer = rw (size-is (handleAnswer g t b p clock)) (reply-bound g t b p clock);
+      carries = carries g t b p clock;
+      count = λ m skew n e. acked g t p clock m n skew b e .count;
+      others = λ k l h. ap (slot k) (table-of g t b p clock (handleAnswer g t b p clock) refl) ∙ others-by p t k (handleAnswer g t b p clock) l h;
+      ended = λ m skew n e code k l h. ended g t b p clock m n skew e k l h code;
+      altered = λ m skew n e code k l h. altered g t b p clock m n skew e k l h code;
+      written = λ secret out d h. (written-form secret out d h, written-signed secret out d h, written-maced secret out d h);
+    }

@@ -1,0 +1,83 @@
+-- Demand 2, as one record: "Requests are judged by RFC 3576 with RFC 2865, as 01 condenses them: discarded exactly for the causes D1 to D6, answered NAK with
+-- the first cause that applies, else acknowledged, with exactly the matching sessions ended or altered."
+-- g is what the gate is set up with, t the table, b the reply buffer, p the request, clock the clock reading. The code's contract is these definitions.
+-- Assumes nothing.
+use mathlib.Core.Bool.{true, false}
+use mathlib.Core.List.{List, _++_}
+use mathlib.Core.Path.{_≡_}
+use Prim.Native.Nat.{ℕ, _+_, _≤_, _<_}
+use lib.IntN.{ℤ}
+use lib.ListN.{getD}
+use Rattle.octets.specs.Numbers.{be}
+use Rattle.octets.specs.Runs.{write}
+use Rattle.attributes.specs.declared.Attribute.{Attribute}
+use Rattle.attributes.specs.declared.Search.the-variants.{At, Missing}
+use Rattle.attributes.specs.Attributes.{attributes, valueOf, firstOf, kindIs}
+use Rattle.signing.specs.Signing.{zeros}
+use Rattle.slots.specs.Slot.{slotCount, slot, live, nasPort, framedAddress, sessionTimeout, idleTimeout, userName, sessionId, callingStation, filterId}
+use Rattle.causes.specs.declared.Cause.{Cause}
+use Rattle.causes.specs.declared.Cause.the-variants.{NoCause}
+use Rattle.rules.specs.Packet.{codeOf, identifierOf, lengthOf, areaOf}
+use Rattle.rules.specs.Settings.{Settings}
+use Rattle.rules.specs.Discards.{formOf, signedBy, badMac}
+use Rattle.rules.specs.Verdict.{verdictOf}
+use Rattle.reply.specs.Reply.{stateOf, causeOf, proxiesOf, macPart, replyMac, replyOf}
+use Rattle.effects.specs.Matching.{matchesIn, matchCount}
+use Rattle.answers.specs.declared.Answer.the-variants.{Refused, Nak, Ack}
+use Rattle.handler.specs.Refusals.{refusalOf}
+use Rattle.handler.specs.Handle.{answerOf, handleAnswer, handleTable, handleReply}
+use Rattle.requests.specs.Writer.{Draft, writeRefusal, requestOf}
+use Rattle.requests.specs.ReplyCheck.{failureOf}
+use Rattle.demands.specs.Answers.{silent, replySize}
+
+-- a list of bytes
+abbrev pub Bytes : List ℕ → Type 0
+Bytes l = (i : ℕ) → getD l i 0 < 256
+
+-- exactly the named fields of a session have the new values: s is the slot before, s′ after; the numbers with all 32 bits
+pub record Altered (area s s′ : List ℕ) : Type 0 where
+  pub timeout : (a : Attribute) → firstOf (kindIs 27) (attributes area) ≡ At a → Bytes area → sessionTimeout s′ ≡ be (a .at + 2) 4 area
+  pub timeout-same : firstOf (kindIs 27) (attributes area) ≡ Missing → sessionTimeout s′ ≡ sessionTimeout s
+  pub idle : (a : Attribute) → firstOf (kindIs 28) (attributes area) ≡ At a → Bytes area → idleTimeout s′ ≡ be (a .at + 2) 4 area
+  pub idle-same : firstOf (kindIs 28) (attributes area) ≡ Missing → idleTimeout s′ ≡ idleTimeout s
+  pub filter : (a : Attribute) → firstOf (kindIs 11) (attributes area) ≡ At a → filterId s′ ≡ valueOf area a
+  pub filter-same : firstOf (kindIs 11) (attributes area) ≡ Missing → filterId s′ ≡ filterId s
+  pub port-same : nasPort s′ ≡ nasPort s
+  pub address-same : framedAddress s′ ≡ framedAddress s
+  pub user-same : userName s′ ≡ userName s
+  pub id-same : sessionId s′ ≡ sessionId s
+  pub station-same : callingStation s′ ≡ callingStation s
+  pub still-live : live s′ ≡ true
+
+-- a reply to the request p carries the first State, Error-Cause on NAK, every Proxy-State in order, and type 80 if the request had one
+pub record Carries (secret p r : List ℕ) (c : Cause) : Type 0 where
+  pub identifier : identifierOf r ≡ identifierOf p
+  pub body : areaOf r ≡ (stateOf (areaOf p) ++ causeOf c ++ proxiesOf (areaOf p)) ++ macPart p (replyMac secret p c)
+  -- it passes our reply check
+  pub passes : failureOf secret p r ≡ 0
+
+pub record Demand2 (g : Settings) (t b p : List ℕ) (clock : ℕ) : Type 0 where
+  -- a refusal comes before any judgement; else the verdict of D1 to D6 and causes 1 to 6, and behind it cause 7, decide
+  pub refused : (refusalOf g t b ≡ 0 → ⊥) → handleAnswer g t b p clock ≡ Refused (refusalOf g t b)
+  pub judged : refusalOf g t b ≡ 0 → handleAnswer g t b p clock ≡ answerOf p t (verdictOf g (signedBy (g .secret) p) p clock)
+  -- a discard or a refusal leaves table and reply as they were; a NAK leaves the table
+  pub silent-table : silent (handleAnswer g t b p clock) ≡ true → handleTable g t b p clock ≡ t
+  pub silent-reply : silent (handleAnswer g t b p clock) ≡ true → handleReply g t b p clock ≡ b
+  pub nak-table : (c : Cause) (skew : ℤ) (n : ℕ) → handleAnswer g t b p clock ≡ Nak c skew n → handleTable g t b p clock ≡ t
+  -- the reply stands at the buffer's start, the bytes after it stay, and it is never longer than the request
+  pub nak-reply : (c : Cause) (skew : ℤ) (n : ℕ) → handleAnswer g t b p clock ≡ Nak c skew n → handleReply g t b p clock ≡ write b 0 (replyOf (g .secret) p c)
+  pub ack-reply : (m : ℕ) (skew : ℤ) (n : ℕ) → handleAnswer g t b p clock ≡ Ack m skew n → handleReply g t b p clock ≡ write b 0 (replyOf (g .secret) p NoCause)
+  pub never-longer : replySize (handleAnswer g t b p clock) ≤ lengthOf p
+  pub carries : silent (handleAnswer g t b p clock) ≡ false → (c : Cause) → Carries (g .secret) p (replyOf (g .secret) p c) c
+  -- an ACK: the count is that of the matching live slots, and all others stay
+  pub count : (m : ℕ) (skew : ℤ) (n : ℕ) → handleAnswer g t b p clock ≡ Ack m skew n → m ≡ matchCount (areaOf p) t
+  pub others : (k : ℕ) → k < slotCount t → matchesIn (areaOf p) t k ≡ false → slot k (handleTable g t b p clock) ≡ slot k t
+  -- after an ACK of a Disconnect no matching session is live
+  pub ended : (m : ℕ) (skew : ℤ) (n : ℕ) → handleAnswer g t b p clock ≡ Ack m skew n → codeOf p ≡ 40
+      → (k : ℕ) → k < slotCount t → matchesIn (areaOf p) t k ≡ true → live (slot k (handleTable g t b p clock)) ≡ false
+  -- after an ACK of a CoA exactly the named fields of the matching sessions have the new values
+  pub altered : (m : ℕ) (skew : ℤ) (n : ℕ) → handleAnswer g t b p clock ≡ Ack m skew n → codeOf p ≡ 43
+      → (k : ℕ) → k < slotCount t → matchesIn (areaOf p) t k ≡ true → Altered (areaOf p) (slot k t) (slot k (handleTable g t b p clock))
+  -- a request from our writer never meets D1 to D5 under the same secret
+  pub written : (secret out : List ℕ) (d : Draft) → writeRefusal secret out d ≡ 0
+      → (formOf (requestOf secret d) ≡ 0) × (signedBy secret (requestOf secret d) ≡ true) × (badMac zeros secret (requestOf secret d) ≡ false)

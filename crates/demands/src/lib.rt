@@ -1,0 +1,1 @@
+// The owner's demands as records, proved. No code.
