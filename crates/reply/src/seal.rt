@@ -1,4 +1,5 @@
-// The signatures of a reply of Length n: the Message-Authenticator, whose value ends the packet, and then the authenticator.
+// The signatures of a packet of Length n: the Message-Authenticator, whose value ends it, and then the authenticator. They are
+// worked out over auth: zeros for a request, the request's authenticator for a reply.
 ghost use mathlib.Core.Path.{_≡_};
 ghost use Prim.Native.Nat.{_+_, _≤_};
 ghost use lib.ListN.{length};
@@ -6,7 +7,7 @@ ghost use Rattle.octets.specs.Runs.{write};
 ghost use Rattle.signing.specs.Signing.{authenticator};
 ghost use Rattle.reply.specs.Rooms.{macRoom, withMac};
 
-// Writes the Message-Authenticator over the request's authenticator, where the reply has one.
+// Writes the Message-Authenticator, where the packet has one.
 pub fn put_mac(t: &mut [u8], n: usize, auth: &[u8], secret: &[u8], present: bool)
     requires { ⌜ (20 + length (macRoom «present») ≤ n) × (n ≤ length (now t)) × (length (now auth) ≡ 16) ⌝ }
     ensures { λ _. ⌜ now (t .exit) ≡ withMac «present» (now (auth .entry)) (now (t .entry)) n (now (secret .entry)) ⌝ }
@@ -19,7 +20,7 @@ pub fn put_mac(t: &mut [u8], n: usize, auth: &[u8], secret: &[u8], present: bool
     }
 }
 
-// Writes the response authenticator, worked out over the request's.
+// Writes the authenticator.
 pub fn put_authenticator(t: &mut [u8], n: usize, auth: &[u8], secret: &[u8])
     requires { ⌜ (20 ≤ n) × (n ≤ length (now t)) × (length (now auth) ≡ 16) ⌝ }
     ensures { λ _. ⌜ now (t .exit) ≡ write (now (t .entry)) 4 (authenticator (now (auth .entry)) (now (t .entry)) n (now (secret .entry))) ⌝ }
