@@ -1,3 +1,5 @@
 pub mod Replied
 pub mod Acked
 pub mod Second
+pub mod Discarding
+pub mod Handled

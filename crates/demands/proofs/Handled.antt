@@ -1,0 +1,123 @@
+-- Demand 1 of whole requests: a refused answer is the lowest number, a discard is the verdict's, and neither writes table or reply.
+-- Assumes nothing.
+use mathlib.Core.Path.{_≡_, refl, sym, ap, subst, _∙_}
+use mathlib.Core.Bool.{Bool, true, false, cond, false≢true}
+use mathlib.Core.List.{List, [], _∷_}
+use Prim.Native.Nat.{ℕ}
+use borrow.Author.Tests.{eqb-false}
+use lib.Dec.{eqb, ltb}
+use lib.IntN.{ℤ}
+use lib.ListN.{length}
+use Rattle.survey.specs.Types.{member}
+use Rattle.slots.specs.Slot.{slotCount}
+use Rattle.stamps.specs.Stamp.{stale}
+use Rattle.causes.specs.declared.Cause.the-variants.{SessionNotFound}
+use Rattle.rules.specs.declared.Verdict as R
+use Rattle.rules.specs.declared.Verdict.the-variants as J
+use Rattle.rules.specs.Packet.{areaOf}
+use Rattle.rules.specs.Settings.{Settings, badSecret, badName}
+use Rattle.rules.specs.Discards.{signedBy}
+use Rattle.rules.specs.Verdict.{verdictOf}
+use Rattle.effects.specs.Matching.{matchCount}
+use Rattle.answers.specs.declared.Answer as D
+use Rattle.answers.specs.declared.Answer.the-variants as A
+use Rattle.answers.specs.Commit.{countAnswer}
+use Rattle.answers.specs.Replies.{replyAs}
+use Rattle.handler.specs.Refusals.{refusalOf}
+use Rattle.handler.specs.Handle.{answerOf, tableAs, handleAnswer, handleTable, handleReply}
+use Rattle.demands.specs.Demand1.{Handling}
+use Rattle.demands.proofs.Discarding.{Among, verdict-among}
+
+abbrev isRefused : D.Answer → Bool
+isRefused (A.Refused n) = true
+isRefused (A.Discarded d) = false
+isRefused (A.Stale k) = false
+isRefused (A.Nak c k n) = false
+isRefused (A.Ack m k n) = false
+
+abbrev refusedAs : D.Answer → ℕ
+refusedAs (A.Refused n) = n
+refusedAs (A.Discarded d) = 0
+refusedAs (A.Stale k) = 0
+refusedAs (A.Nak c k n) = 0
+refusedAs (A.Ack m k n) = 0
+
+-- an answer back to its verdict
+abbrev discardedAs : D.Answer → R.Verdict → Type 0
+discardedAs (A.Refused n) x = Unit {0}
+discardedAs (A.Discarded d) x = x ≡ J.Discarded d
+discardedAs (A.Stale k) x = x ≡ J.Stale k
+discardedAs (A.Nak c k n) x = Unit {0}
+discardedAs (A.Ack m k n) x = Unit {0}
+
+back-count : (p : List ℕ) (n : ℕ) (k : ℤ) (b : Bool) (i j : ℕ) (x : R.Verdict) → discardedAs (cond b (A.Nak SessionNotFound k i) (A.Ack n k j)) x
+back-count p n k true i j x = tt
+back-count p n k false i j x = tt
+
+back : (p t : List ℕ) (x : R.Verdict) → discardedAs (answerOf p t x) x
+unfolding countAnswer
+back p t (J.Discarded d) = refl
+back p t (J.Stale k) = refl
+back p t (J.Nak c k) = tt
+back p t (J.Passed k) = back-count p (matchCount (areaOf p) t) k (eqb (matchCount (areaOf p) t) 0) _ _ (J.Passed k)
+
+none-count : (n : ℕ) (k : ℤ) (b : Bool) (i j : ℕ) → isRefused (cond b (A.Nak SessionNotFound k i) (A.Ack n k j)) ≡ false
+none-count n k true i j = refl
+none-count n k false i j = refl
+
+none-refused : (p t : List ℕ) (x : R.Verdict) → isRefused (answerOf p t x) ≡ false
+unfolding countAnswer
+none-refused p t (J.Discarded d) = refl
+none-refused p t (J.Stale k) = refl
+none-refused p t (J.Nak c k) = refl
+none-refused p t (J.Passed k) = none-count (matchCount (areaOf p) t) k (eqb (matchCount (areaOf p) t) 0) _ _
+
+-- ---- refused
+
+is-number : (p t : List ℕ) (x : R.Verdict) (r n : ℕ) (b : Bool) → eqb r 0 ≡ b → cond b (answerOf p t x) (A.Refused r) ≡ A.Refused n → (n ≡ r) × (r ≡ 0 → ⊥)
+is-number p t x r n true h e = absurd (false≢true (sym (none-refused p t x) ∙ ap isRefused e))
+is-number p t x r n false h e = (sym (ap refusedAs e), eqb-false _ _ h)
+
+one-of : (x y z w : Bool) → (_≡_ {A = ℕ} (cond x 1 (cond y 2 (cond z 3 (cond w 4 0)))) 0 → ⊥) → member (cond x 1 (cond y 2 (cond z 3 (cond w 4 0)))) (1 ∷ 2 ∷ 3 ∷ 4 ∷ []) ≡ true
+one-of true y z w h = refl
+one-of false true z w h = refl
+one-of false false true w h = refl
+one-of false false false true h = refl
+one-of false false false false h = absurd (h refl)
+
+refusal-one : (g : Settings) (t b : List ℕ) → (refusalOf g t b ≡ 0 → ⊥) → member (refusalOf g t b) (1 ∷ 2 ∷ 3 ∷ 4 ∷ []) ≡ true
+unfolding refusalOf
+refusal-one g t b h = one-of (eqb (slotCount t) 0) (badSecret (g .secret)) (badName (g .name)) (ltb (length b) 4096) h
+
+-- ---- discarded
+
+by-back : (p t : List ℕ) (x : R.Verdict) (r : ℕ) (a : D.Answer) (b : Bool) → cond b (answerOf p t x) (A.Refused r) ≡ a → discardedAs a x
+by-back p t x r a true e = subst (λ (y : D.Answer). discardedAs y x) e (back p t x)
+by-back p t x r a false e = subst (λ (y : D.Answer). discardedAs y x) e tt
+
+among-of : (x : R.Verdict) (d : ℕ) (l : List ℕ) → x ≡ J.Discarded d → Among l x → member d l ≡ true
+among-of x d l e h = rw e at h
+
+module _ (g : Settings) (t b p : List ℕ) (clock : ℕ) where
+  verdict-of : (a : D.Answer) → handleAnswer g t b p clock ≡ a → discardedAs a (verdictOf g (signedBy (g .secret) p) p clock)
+  unfolding handleAnswer
+  verdict-of a e = by-back p t (verdictOf g (signedBy (g .secret) p) p clock) (refusalOf g t b) a (eqb (refusalOf g t b) 0) e
+
+  number-of : (n : ℕ) → handleAnswer g t b p clock ≡ A.Refused n → (n ≡ refusalOf g t b) × (refusalOf g t b ≡ 0 → ⊥)
+  unfolding handleAnswer
+  number-of n e = is-number p t (verdictOf g (signedBy (g .secret) p) p clock) (refusalOf g t b) n (eqb (refusalOf g t b) 0) refl e
+
+  kept : (a : D.Answer) → handleAnswer g t b p clock ≡ a → (handleTable g t b p clock ≡ tableAs p t a) × (handleReply g t b p clock ≡ replyAs (g .secret) p b a)
+  unfolding handleTable handleReply
+  kept a e = (ap (tableAs p t) e, ap (replyAs (g .secret) p b) e)
+
+  pub handling : Handling g t b p clock
+  handling =
+      record {
+        refusals = λ n e. let q = number-of n e in (rw (q .0) (refusal-one g t b (q .1)), q .0);
+        discards = λ d e. let x = verdict-of (A.Discarded d) e in (among-of _ d _ x (verdict-among g p clock (signedBy (g .secret) p)), x);
+        stale = λ k e. verdict-of (A.Stale k) e;
+        refused-kept = λ n e. kept (A.Refused n) e;
+        discarded-kept = λ d e. kept (A.Discarded d) e;
+        stale-kept = λ k e. kept (A.Stale k) e;
+      }
