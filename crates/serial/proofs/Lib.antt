@@ -6,3 +6,6 @@ pub mod Holding
 pub mod Hashing
 pub mod Marking
 pub mod Moving
+pub mod Tying
+pub mod Admitting
+pub mod Stepping
