@@ -9,3 +9,4 @@ pub mod Moving
 pub mod Tying
 pub mod Admitting
 pub mod Stepping
+pub mod Calling
