@@ -10,3 +10,4 @@ pub mod Tying
 pub mod Admitting
 pub mod Stepping
 pub mod Calling
+pub mod Whole
