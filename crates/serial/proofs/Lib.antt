@@ -11,3 +11,7 @@ pub mod Admitting
 pub mod Stepping
 pub mod Calling
 pub mod Whole
+pub mod Potential
+pub mod Bounding
+pub mod Spending
+pub mod Proved

@@ -31,6 +31,17 @@ pub record Made (g : Settings) : Type 0 where
 abbrev pub serialOf : World → List Note → Serial
 serialOf w ns = record { settings = settingsOf (w .scheduler); table = w .table; notes = ns }
 
+-- a job sent back to slot 0 is as open as it was
+back-open : (x : S.Stage) (j : B.Job) → j .stage ≡ x → isOpen (restartedAt x j .stage) ≡ isOpen x
+back-open Free j e = ap isOpen e
+back-open (Hash k) j e = ap isOpen e
+back-open Check j e = ap isOpen e
+back-open (Match k) j e = refl
+
+pub restarted-open : (j : B.Job) → isOpen (restarted j .stage) ≡ isOpen (j .stage)
+unfolding restarted
+restarted-open j = back-open (j .stage) j refl
+
 module _ (g : Settings) where
   abbrev pub JobTied : B.Job → Note → List ℕ → List ℕ → Type 0
   JobTied j none q t = isOpen (j .stage) ≡ false
@@ -56,16 +67,6 @@ module _ (g : Settings) where
   flags js ns store t h = fun-ext (λ i. job-flag (jobAt js i) (getD ns i none) (partOf i store) t (h i))
 
   -- ---- sent back to slot 0
-
-  back-open : (x : S.Stage) (j : B.Job) → j .stage ≡ x → isOpen (restartedAt x j .stage) ≡ isOpen x
-  back-open Free j e = ap isOpen e
-  back-open (Hash k) j e = ap isOpen e
-  back-open Check j e = ap isOpen e
-  back-open (Match k) j e = refl
-
-  pub restarted-open : (j : B.Job) → isOpen (restarted j .stage) ≡ isOpen (j .stage)
-  unfolding restarted
-  restarted-open j = back-open (j .stage) j refl
 
   back-holds : (x : S.Stage) (j : B.Job) (p : List ℕ) (clock : ℕ) (q t u : List ℕ) → j .stage ≡ x → Holding g j p clock q t → Place g x (j .words) (j .marks) p clock t
       → Holding g (restartedAt x j) p clock q u
