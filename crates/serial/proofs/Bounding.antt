@@ -1,17 +1,15 @@
 -- Each step that is not refused makes the number of steps that are left at most smaller, whatever it sends back: a step that goes on takes one from its own job;
 -- one that finishes takes its job away, and with it 64 for each job that is still open, which is what sending them back costs.
 -- Assumes nothing.
-use mathlib.Core.Path.{_≡_, refl, sym, ap, _∙_}
-use mathlib.Core.Bool.{Bool, true, false, cond, false≢true, _&&_}
-use mathlib.Core.List.{List, [], _∷_, map}
+use mathlib.Core.Path.{_≡_, refl}
+use mathlib.Core.Bool.{Bool, true, false, cond, false≢true}
+use mathlib.Core.List.{List, map}
 use Prim.Native.Nat.{ℕ, suc, _+_, _*_, _-_, _≤_, _<_}
 use native.Mathlib.Omega.{arith}
-use borrow.Author.Tests.{ltb-true, eqb-true}
-use lib.Dec.{eqb, ltb}
-use lib.ListN.{length, getD, set}
-use Rattle.octets.proofs.Equality.{and-both}
+use borrow.Author.Tests.{ltb-true}
+use lib.Dec.{ltb}
+use lib.ListN.{length, set}
 use Rattle.signing.specs.Block.{blockCount}
-use Rattle.signing.proofs.Stepwise.{blocks-most}
 use Rattle.slots.specs.Slot.{slotCount}
 use Rattle.slots.proofs.Count.{counted}
 use Rattle.rules.specs.declared.Verdict as R
@@ -27,7 +25,7 @@ use Rattle.jobs.specs.declared.Ending.the-variants as K
 use Rattle.jobs.specs.declared.Moved as M
 use Rattle.jobs.specs.Job.{freeJob, isOpen, restarted}
 use Rattle.jobs.specs.Reread.{holds, holdsPassed}
-use Rattle.jobs.specs.Moves.{going, done, hashJob, wordsSigned, checkedAs, checkMove, matchJob, commitMove, slotMove, movedAt, moved}
+use Rattle.jobs.specs.Moves.{going, done, hashJob, wordsSigned, checkedAs, checkMove, matchJob, commitMove, slotMove, movedAt}
 use Rattle.scheduler.specs.declared.Scheduler as D
 use Rattle.scheduler.specs.Scheduler.{jobAt, openAt, withJob, restartAll}
 use Rattle.scheduler.specs.Calls.{isAck, steppedAs}

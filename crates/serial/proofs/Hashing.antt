@@ -93,5 +93,5 @@ module _ (g : Settings) (p : List ℕ) (clock : ℕ) (q t b : List ℕ) (open-to
   check-right j l c h =
       let still : holds (j .length) q ≡ true = ap (λ (n : ℕ). holds n q) l ∙ same-holds p q same in
       let verdict : checkVerdict g (wordsSigned j q) q (j .clock) ≡ checkVerdict g (signedBy (g .secret) p) p clock =
-        check-same p q same g (j .clock) (wordsSigned j q) ∙ rw (signed-words j h, c) in
+      check-same p q same g (j .clock) (wordsSigned j q) ∙ rw (signed-words j h, c) in
       rw (still, verdict) (checked-right (checkVerdict g (signedBy (g .secret) p) p clock) j l c refl)

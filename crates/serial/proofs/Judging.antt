@@ -1,7 +1,7 @@
 -- A packet read again is judged and answered as the packet itself: verdict, reply, commit. Each of them looks only at Length, code, identifier,
 -- authenticator and attributes, and at the messages under the signatures, which two packets alike up to Length share.
 -- Assumes nothing.
-use mathlib.Core.Path.{_≡_, refl, ap, fun-ext}
+use mathlib.Core.Path.{_≡_, refl, fun-ext}
 use mathlib.Core.Bool.{Bool}
 use mathlib.Core.List.{List}
 use Prim.Native.Nat.{ℕ, _+_}
@@ -11,7 +11,6 @@ use Rattle.signing.specs.Signing.{zeros}
 use Rattle.signing.proofs.Messages.{same-messageAuthenticator}
 use Rattle.stamps.specs.declared.Stamp.{Stamp}
 use Rattle.stamps.specs.declared.Stamp.the-variants.{Usable, Unusable}
-use Rattle.stamps.specs.Stamp.{stale, skewOf}
 use Rattle.causes.specs.declared.Cause.{Cause}
 use Rattle.causes.specs.declared.Cause.the-variants.{SessionNotFound, NoCause}
 use Rattle.rules.specs.Packet.{lengthOf}

@@ -8,7 +8,9 @@ pub mod Marking
 pub mod Moving
 pub mod Tying
 pub mod Admitting
+pub mod Agreeing
 pub mod Stepping
+pub mod Opening
 pub mod Calling
 pub mod Whole
 pub mod Potential

@@ -27,7 +27,7 @@ use Rattle.effects.proofs.Marked.{counted-matching, changed-matching, none-mark
 use Rattle.answers.specs.declared.Answer.the-variants as A
 use Rattle.answers.specs.Commit.{countAnswer, commitAnswer, commitTable}
 use Rattle.handler.specs.Refusals.{refusalOf}
-use Rattle.handler.specs.Handle.{tableAs, handleAnswer}
+use Rattle.handler.specs.Handle.{tableAs}
 use Rattle.jobs.specs.declared.Job as B
 use Rattle.jobs.specs.Reread.{holdsPassed}
 use Rattle.jobs.specs.Moves.{going, matchJob, skewAt, commitMove, slotMove, slotTable}
@@ -63,7 +63,7 @@ module _ (g : Settings) (p : List ℕ) (clock : ℕ) (q t b : List ℕ) (open-to
   commit-right j c walked =
       let skew = skewAt (stampOf (areaOf p)) clock in
       let a : commitAnswer q (j .marks) t (skewAt (stampOf (areaOf q)) (j .clock)) ≡ commitAnswer p (j .marks) t skew =
-        rw (answer-same p q same, same .area, c) in
+      rw (answer-same p q same, same .area, c) in
       ends-with g p clock q t b (commitAnswer q (j .marks) t (skewAt (stampOf (areaOf q)) (j .clock))) (commitTable q (j .marks) t) same
       (handled-as g p clock q t b open-to good (J.Passed skew) (passed .verdict) ∙ sym (a ∙ commit-answer p t (j .marks) walked skew))
       (table-same p q same (j .marks) t ∙ commit-table p t (j .marks) walked skew ∙ ap (tableAs p t) (sym a))

@@ -3,7 +3,6 @@
 use mathlib.Core.Path.{_≡_}
 use mathlib.Core.List.{List}
 use Prim.Native.Nat.{ℕ}
-use Rattle.rules.specs.Packet.{lengthOf}
 use Rattle.rules.specs.Settings.{Settings}
 use Rattle.handler.specs.Refusals.{refusalOf}
 use Rattle.jobs.specs.declared.Job as B

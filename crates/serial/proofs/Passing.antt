@@ -1,22 +1,21 @@
 -- A request that passed Check holds when read again, and its skew can be told again. A pass means: type 80 is right, so of length 18 if there is one;
 -- the stamp is usable, and the skew is that of the stamp; none of causes 1 to 6 applies.
 -- Assumes nothing.
-use mathlib.Core.Path.{_≡_, refl, sym, ap, _∙_}
-use mathlib.Core.Bool.{Bool, true, false, cond, not, _||_, false≢true}
+use mathlib.Core.Path.{_≡_, refl, sym, _∙_}
+use mathlib.Core.Bool.{Bool, true, false, not, _||_, false≢true}
 use mathlib.Core.List.{List}
 use Prim.Native.Nat.{ℕ, _≤_}
 use native.Mathlib.Omega.{arith}
 use borrow.Author.Tests.{eq-eqb, ltb-false}
-use lib.Dec.{eqb, ltb}
+use lib.Dec.{eqb}
 use lib.IntN.{ℤ}
-use Rattle.attributes.specs.declared.Attribute.{Attribute}
 use Rattle.attributes.specs.declared.Search.{Search}
 use Rattle.attributes.specs.declared.Search.the-variants.{At, Missing}
 use Rattle.attributes.specs.Attributes.{attributes, any, found, firstOf, onFirst, countOf, kindIs}
 use Rattle.attributes.proofs.Searches.{only}
 use Rattle.survey.specs.Survey.{sizeOf}
 use Rattle.signing.specs.Signing.{zeros}
-use Rattle.stamps.specs.Stamp.{stampOf, skewOf}
+use Rattle.stamps.specs.Stamp.{stampOf}
 use Rattle.causes.specs.Causes.{causeOf}
 use Rattle.rules.specs.declared.Verdict.the-variants as J
 use Rattle.rules.specs.Packet.{codeOf, lengthOf, areaOf}
@@ -24,8 +23,8 @@ use Rattle.rules.specs.Settings.{Settings}
 use Rattle.rules.specs.Discards.{badMac}
 use Rattle.rules.specs.Verdict.{applies, nakOr, freshVerdict, checkVerdict}
 use Rattle.replies.proofs.Judged.{mac-eighteen}
-use Rattle.handler.proofs.Fresh.{Reached, reached, uncaused}
-use Rattle.jobs.specs.Reread.{usable, oddMac, holds, holdsPassed}
+use Rattle.handler.proofs.Fresh.{reached, uncaused}
+use Rattle.jobs.specs.Reread.{usable, oddMac, holdsPassed}
 use Rattle.jobs.specs.Moves.{skewAt}
 use Rattle.serial.proofs.Same.{SamePacket, same-holds}
 

@@ -6,11 +6,11 @@ use mathlib.Core.Bool.{Bool, true, false, false≢true}
 use mathlib.Core.List.{List, [], _∷_, map}
 use Prim.Native.Nat.{ℕ, zero, suc, _+_, _*_, _-_, _≤_, _<_}
 use native.Mathlib.Omega.{arith}
-use lib.ListN.{length, getD, set}
+use lib.ListN.{length, set}
 use Rattle.jobs.specs.declared.Job as B
 use Rattle.jobs.specs.declared.Stage as S
 use Rattle.jobs.specs.declared.Stage.the-variants.{Free, Hash, Check, Match}
-use Rattle.jobs.specs.Job.{freeJob, isOpen, restartedAt, restarted}
+use Rattle.jobs.specs.Job.{isOpen, restartedAt, restarted}
 use Rattle.scheduler.specs.Scheduler.{jobAt, openAt}
 use Rattle.serial.proofs.Tying.{restarted-open, open-below}
 

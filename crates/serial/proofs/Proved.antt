@@ -1,6 +1,6 @@
 -- Demand 3, proved: the two agree on every list of calls, and with at most 912 steps left the 912th finishes the last open request.
 -- Assumes nothing.
-use mathlib.Core.Path.{_≡_, refl, sym, ap, _∙_}
+use mathlib.Core.Path.{_≡_, sym, ap, _∙_}
 use mathlib.Core.Bool.{Bool, true, false}
 use mathlib.Core.List.{List, _++_}
 use Prim.Native.Nat.{ℕ, _≤_}
@@ -10,7 +10,7 @@ use Rattle.scheduler.specs.Scheduler.{openAt}
 use Rattle.scheduler.specs.Runs.{Call, World, run}
 use Rattle.serial.specs.Serial.{Serial, notedAt}
 use Rattle.serial.specs.Demand3.{quiet, steps, world, serially, New, Demand3}
-use Rattle.serial.proofs.Potential.{potential, potential-most, all-finished}
+use Rattle.serial.proofs.Potential.{potential-most, all-finished}
 use Rattle.serial.proofs.Whole.{whole, run-behind, notes-open}
 use Rattle.serial.proofs.Spending.{run-spent}
 

@@ -31,8 +31,8 @@ use Rattle.scheduler.specs.Refusals.{openRefusal, stepRefusal, dropRefusal}
 use Rattle.scheduler.specs.Calls.{called, steppedAs, movedOf, openCalled, stepCalled, dropCalled, startedAs, startCalled, endedAs, endCalled}
 use Rattle.scheduler.specs.declared.Called as C
 use Rattle.scheduler.specs.Runs.{Call, Open, Step, Drop, Start, End, World, call, run}
-use Rattle.serial.specs.Serial.{Note, none, noted, enter}
-use Rattle.serial.specs.Demand3.{finished, quietBy, quiet, countsBy, steps}
+use Rattle.serial.specs.Serial.{Note, none, noted}
+use Rattle.serial.specs.Demand3.{quietBy, quiet, countsBy, steps}
 use Rattle.serial.proofs.Same.{form-sized}
 use Rattle.serial.proofs.Holding.{Holding}
 use Rattle.serial.proofs.Moving.{move-right}

@@ -6,8 +6,9 @@ use mathlib.Core.Bool.{Bool, true, false, cond, false≢true}
 use mathlib.Core.List.{List}
 use Prim.Native.Nat.{ℕ}
 use native.Mathlib.Omega.{arith}
+use borrow.Author.Tests.{eqb-true}
 use lib.Dec.{eqb}
-use lib.ListN.{length, getD, set, length-set, length-map}
+use lib.ListN.{length, getD, set, length-set}
 use lib.Seq.{set-getD}
 use Rattle.answers.specs.declared.Answer as A
 use Rattle.answers.specs.Replies.{replyAs}
@@ -15,53 +16,24 @@ use Rattle.jobs.specs.declared.Job as B
 use Rattle.jobs.specs.declared.Ending as E
 use Rattle.jobs.specs.declared.Ending.the-variants as K
 use Rattle.jobs.specs.declared.Moved as M
-use Rattle.jobs.specs.Job.{freeJob, restarted}
 use Rattle.jobs.specs.Moves.{movedTable, replyAfter}
-use Rattle.handler.specs.Handle.{handleAnswer, handleTable, handleReply}
 use Rattle.scheduler.specs.declared.Scheduler as D
 use Rattle.scheduler.specs.declared.Outcome.the-variants as O
 use Rattle.scheduler.specs.Scheduler.{settingsOf, jobAt, openAt, withJob, restartAll, partOf}
 use Rattle.scheduler.specs.Refusals.{stepRefusal}
 use Rattle.scheduler.specs.Calls.{called, isAck, steppedAs, movedOf, stepCalled, stepTable, stepReply}
 use Rattle.scheduler.specs.Runs.{Step, World, Did, did, call}
-use Rattle.serial.specs.Serial.{Note, none, noted, isNoted, noteAt, notedAt, Serial, Entry, entry, handled, enterStep, enter}
+use Rattle.serial.specs.Serial.{Note, none, noted, noteAt, Entry, entry, handled, enterStep, enter}
 use Rattle.serial.specs.Demand3.{finished}
-use Rattle.serial.proofs.Holding.{Holding, Ended, Finished}
+use Rattle.serial.proofs.Holding.{Ended, Finished}
 use Rattle.serial.proofs.Moving.{move-right}
-use Rattle.serial.proofs.Tying.{serialOf, JobTied, Each, flags, job-flag, all-restarted, stored, Tied, open-below}
+use Rattle.serial.proofs.Tying.{serialOf, JobTied, flags, stored, Tied, open-below}
 use Rattle.serial.proofs.Admitting.{step-admitted, handling-admitted}
-use borrow.Author.Tests.{eqb-true}
-
--- one answer, the tie again, and the store's length
-pub record Agree (n : ℕ) (d : Did) (e : Entry) : Type 0 where
-  pub out-is : d .out ≡ e .out
-  pub notes : List Note
-  pub serial-is : e .serial ≡ serialOf (d .world) notes
-  pub tied : Tied (d .world) notes
-  pub size : length (d .world .store) ≡ n
+use Rattle.serial.proofs.Agreeing.{Agree, unchanged, after-ack}
 
 module _ (s : D.Scheduler) (t store : List ℕ) (ns : List Note) (h : Tied (record { scheduler = s; table = t; store = store }) ns) where
   abbrev before : World
   before = record { scheduler = s; table = t; store = store }
-
-  -- job j freed, its note struck
-  pub struck : (j : ℕ) → openAt (s .jobs) j ≡ true → Each (settingsOf s) (set (s .jobs) j freeJob) (set ns j none) store t
-  struck j o =
-      let l = open-below (s .jobs) j o in
-      stored (settingsOf s) (s .jobs) ns store t j freeJob none l (omega (arith, h .count, h .notes)) refl (λ i ne. h .each i)
-
-  -- an ACK sends the others back
-  after-ack : (f : Bool) (j : ℕ) (u : List ℕ) → openAt (s .jobs) j ≡ true → (f ≡ false → u ≡ t)
-      → Tied (record { scheduler = cond f (restartAll (withJob s j freeJob)) (withJob s j freeJob); table = u; store = store }) (set ns j none)
-  after-ack true j u o e =
-      record {
-        made = h .made;
-        count = simp (length-map, length-set) (h .count);
-        notes = simp length-set (h .notes);
-        each = all-restarted (settingsOf s) (set (s .jobs) j freeJob) (set ns j none) store t u (struck j o);
-      }
-  after-ack false j u o e =
-      rw (e refl) record { made = h .made; count = simp length-set (h .count); notes = simp length-set (h .notes); each = struck j o }
 
   -- what the two do with a job moved, by whether it is finished
   abbrev done-of : ℕ → List ℕ → List ℕ → B.Job → E.Ending → Did
@@ -73,13 +45,13 @@ module _ (s : D.Scheduler) (t store : List ℕ) (ns : List Note) (h : Tied (reco
   finish-agrees : (f : Bool) (p : List ℕ) (clock j : ℕ) (b u : List ℕ) (x : B.Job) (a : A.Answer) → isAck a ≡ f → openAt (s .jobs) j ≡ true
       → Finished (settingsOf s) p clock (partOf j store) t b x u a
       → Agree (length store) (did (called (cond f (restartAll (withJob s j x)) (withJob s j x)) (O.Done a)) (replyAs (settingsOf s .secret) (partOf j store) b a) u store)
-        (told-of (noted p clock) j b true)
+      (told-of (noted p clock) j b true)
   finish-agrees true p clock j b u x a e o k =
       record {
         out-is = rw (k .answer, k .reply);
         notes = set ns j none;
         serial-is = rw (k .table);
-        tied = rw (k .freed) (after-ack true j u o (λ z. k .kept (e ∙ z)));
+        tied = rw (k .freed) (after-ack s t store ns h true j u o (λ z. k .kept (e ∙ z)));
         size = refl;
       }
   finish-agrees false p clock j b u x a e o k =
@@ -87,7 +59,7 @@ module _ (s : D.Scheduler) (t store : List ℕ) (ns : List Note) (h : Tied (reco
         out-is = rw (k .answer, k .reply);
         notes = set ns j none;
         serial-is = rw (k .table);
-        tied = rw (k .freed) (after-ack false j u o (λ z. k .kept (e ∙ z)));
+        tied = rw (k .freed) (after-ack s t store ns h false j u o (λ z. k .kept (e ∙ z)));
         size = refl;
       }
 
@@ -140,7 +112,7 @@ module _ (s : D.Scheduler) (t store : List ℕ) (ns : List Note) (h : Tied (reco
     by-refusal : (f : Bool) → eqb refusal 0 ≡ f
         → Agree (length store) (did-of f) (cond f (told-of (getD ns j none) j b (finished (did-of f .out))) (entry (O.Refused refusal) b (serialOf before ns)))
     by-refusal true e = by-note (getD ns j none) j b refl (h .each j) (eqb-true refusal 0 e)
-    by-refusal false e = record { out-is = refl; notes = ns; serial-is = refl; tied = h; size = refl }
+    by-refusal false e = unchanged s t store ns h (O.Refused refusal) b
 
     pub step-agrees : Agree (length store) (call (Step j b) before) (enter (Step j b) (finished (call (Step j b) before .out)) (length store) (serialOf before ns))
     unfolding call enter stepCalled stepTable stepReply enterStep noteAt

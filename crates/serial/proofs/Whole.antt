@@ -3,7 +3,7 @@
 use mathlib.Core.Path.{_≡_, refl, sym, ap, _∙_}
 use mathlib.Core.Bool.{false}
 use mathlib.Core.List.{List, [], _∷_, _++_, map}
-use Prim.Native.Nat.{ℕ, zero, suc, _≤_}
+use Prim.Native.Nat.{ℕ, zero, suc}
 use native.Mathlib.Omega.{arith}
 use borrow.Author.Tests.{ne-eqb, le-ltb}
 use lib.ListN.{length, take, getD, replicate}
@@ -11,12 +11,12 @@ use lib.Seq.{length-take-le}
 use Rattle.rules.specs.Settings.{badSecret, badName}
 use Rattle.jobs.specs.Job.{freeJob, isOpen}
 use Rattle.scheduler.specs.declared.Scheduler as D
-use Rattle.scheduler.specs.Scheduler.{settingsOf, jobAt, openAt, Ours, partOf}
+use Rattle.scheduler.specs.Scheduler.{settingsOf, jobAt, openAt, Ours}
 use Rattle.scheduler.specs.Runs.{Call, World, Ran, call, run}
-use Rattle.serial.specs.Serial.{Note, none, Serial, Kept, notedAt, enter, start, keep}
+use Rattle.serial.specs.Serial.{Note, none, Serial, Kept, notedAt, enter, keep}
 use Rattle.serial.specs.Demand3.{finished, world, serially, New}
-use Rattle.serial.proofs.Tying.{Made, serialOf, JobTied, flags, Tied}
-use Rattle.serial.proofs.Stepping.{Agree}
+use Rattle.serial.proofs.Tying.{Made, serialOf, flags, Tied}
+use Rattle.serial.proofs.Agreeing.{Agree}
 use Rattle.serial.proofs.Calling.{call-agrees}
 
 pub record Same (d : Ran) (k : Kept) : Type 0 where
