@@ -17,3 +17,4 @@ pub mod Potential
 pub mod Bounding
 pub mod Spending
 pub mod Proved
+pub mod Lone

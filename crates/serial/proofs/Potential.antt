@@ -106,10 +106,13 @@ one-most : (b : Bool) → one b ≤ 1
 one-most true = omega arith
 one-most false = omega arith
 
+pub opens-most : (x : S.Stage) → opens x ≤ 1
+opens-most x = one-most (isOpen x)
+
 pub potential-most : (js : List B.Job) → length js ≡ 4 → potential js ≤ 912
 unfolding potential
 potential-most js e =
-    let c : total opens js ≤ 4 = omega (arith, total-most opens 1 (λ x. one-most (isOpen x)) js) in
+    let c : total opens js ≤ 4 = omega (arith, total-most opens 1 opens-most js) in
     omega (arith, total-most left 132 left-most js, pairs-most (total opens js) c)
 
 -- ---- where none is left, no job is open
