@@ -18,3 +18,8 @@ pub mod Bounding
 pub mod Spending
 pub mod Proved
 pub mod Lone
+pub mod Sparing
+pub mod Writing
+pub mod Copying
+pub mod Keeping
+pub mod Owning

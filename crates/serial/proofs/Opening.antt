@@ -30,7 +30,7 @@ use Rattle.serial.proofs.Admitting.{open-admitted}
 use Rattle.serial.proofs.Agreeing.{Agree, unchanged}
 
 -- there is a block to hash
-some-block : (n : ℕ) → 0 < blockCount n
+pub some-block : (n : ℕ) → 0 < blockCount n
 unfolding blockCount
 some-block n = omega arith
 
