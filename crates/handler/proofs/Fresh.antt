@@ -32,11 +32,12 @@ answered (J.Stale k) = false
 answered (J.Nak c k) = true
 answered (J.Passed k) = true
 
-record Reached (g : Settings) (p : List ℕ) (clock : ℕ) (x : R.Verdict) : Type 0 where
-  right : badMac zeros (g .secret) p ≡ false
-  stamp : ℕ
-  usable : stampOf (areaOf p) ≡ Usable stamp
-  is : x ≡ freshVerdict (g .address) (g .name) p (skewOf stamp clock)
+-- what such a verdict had behind it
+pub record Reached (g : Settings) (p : List ℕ) (clock : ℕ) (x : R.Verdict) : Type 0 where
+  pub right : badMac zeros (g .secret) p ≡ false
+  pub stamp : ℕ
+  pub usable : stampOf (areaOf p) ≡ Usable stamp
+  pub is : x ≡ freshVerdict (g .address) (g .name) p (skewOf stamp clock)
 
 module _ (g : Settings) (p : List ℕ) (clock : ℕ) (x : R.Verdict) (yes-answered : answered x ≡ true) where
   by-stale : (b : Bool) (v : ℕ) → x ≡ cond b (J.Stale (skewOf v clock)) (freshVerdict (g .address) (g .name) p (skewOf v clock)) → x ≡ freshVerdict (g .address) (g .name) p (skewOf v clock)
@@ -51,7 +52,7 @@ module _ (g : Settings) (p : List ℕ) (clock : ℕ) (x : R.Verdict) (yes-answer
   by-mac true h e = absurd (false≢true (sym (ap answered e) ∙ yes-answered))
   by-mac false h e = by-stamp h (stampOf (areaOf p)) refl e
 
-  reached : x ≡ checkVerdict g true p clock → Reached g p clock x
+  pub reached : x ≡ checkVerdict g true p clock → Reached g p clock x
   unfolding checkVerdict
   reached e = by-mac (badMac zeros (g .secret) p) refl e
 

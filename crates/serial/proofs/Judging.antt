@@ -1,0 +1,93 @@
+-- A packet read again is judged and answered as the packet itself: verdict, reply, commit. Each of them looks only at Length, code, identifier,
+-- authenticator and attributes, and at the messages under the signatures, which two packets alike up to Length share.
+-- Assumes nothing.
+use mathlib.Core.Path.{_≡_, refl, fun-ext}
+use mathlib.Core.Bool.{Bool}
+use mathlib.Core.List.{List}
+use Prim.Native.Nat.{ℕ, _+_}
+use lib.IntN.{ℤ}
+use Rattle.attributes.specs.declared.Attribute.{Attribute}
+use Rattle.signing.specs.Signing.{zeros}
+use Rattle.signing.proofs.Messages.{same-messageAuthenticator}
+use Rattle.stamps.specs.declared.Stamp.{Stamp}
+use Rattle.stamps.specs.declared.Stamp.the-variants.{Usable, Unusable}
+use Rattle.causes.specs.declared.Cause.{Cause}
+use Rattle.causes.specs.declared.Cause.the-variants.{SessionNotFound, NoCause}
+use Rattle.rules.specs.Packet.{lengthOf}
+use Rattle.rules.specs.Settings.{Settings}
+use Rattle.rules.specs.Discards.{wrongMac, badMac}
+use Rattle.rules.specs.Verdict.{freshVerdict, stampVerdict, checkVerdict}
+use Rattle.reply.specs.Reply.{bodyOf, macPart, replyLength, headOf, replyWith, replyMac, replyAuth, replyOf}
+use Rattle.answers.specs.declared.Answer as D
+use Rattle.answers.specs.declared.Answer.the-variants as A
+use Rattle.answers.specs.Replies.{replyAs}
+use Rattle.answers.specs.Commit.{countAnswer, commitAnswer, commitTable}
+use Rattle.serial.proofs.Same.{SamePacket}
+
+module _ (p q : List ℕ) (s : SamePacket p q) where
+  -- ---- the verdict
+
+  wrong-same : (secret : List ℕ) (a : Attribute) → wrongMac zeros secret q a ≡ wrongMac zeros secret p a
+  unfolding wrongMac
+  wrong-same secret a = rw (s .area, s .long, same-messageAuthenticator (lengthOf p) q p (s .alike) zeros (22 + a .at) secret)
+
+  mac-same : (secret : List ℕ) → badMac zeros secret q ≡ badMac zeros secret p
+  unfolding badMac
+  mac-same secret = rw (s .area, fun-ext (wrong-same secret))
+
+  module _ (g : Settings) (clock : ℕ) where
+    stamp-same : (x : Stamp) → stampVerdict g q clock x ≡ stampVerdict g p clock x
+    unfolding freshVerdict
+    stamp-same (Usable v) = rw (s .area, s .code)
+    stamp-same Unusable = refl
+
+    pub check-same : (b : Bool) → checkVerdict g b q clock ≡ checkVerdict g b p clock
+    unfolding checkVerdict
+    check-same b = rw (mac-same (g .secret), s .area, stamp-same)
+
+  -- ---- the reply
+
+  body-same : (c : Cause) → bodyOf q c ≡ bodyOf p c
+  unfolding bodyOf
+  body-same c = rw (s .area)
+
+  seal-same : (v : List ℕ) → macPart q v ≡ macPart p v
+  unfolding macPart
+  seal-same v = rw (s .area)
+
+  pub length-same : (c : Cause) → replyLength q c ≡ replyLength p c
+  unfolding replyLength
+  length-same c = rw (body-same c, seal-same zeros)
+
+  with-same : (c : Cause) (auth mac : List ℕ) → replyWith q c auth mac ≡ replyWith p c auth mac
+  unfolding replyWith headOf
+  with-same c auth mac = rw (body-same c, seal-same mac, length-same c, s .code, s .identifier)
+
+  sum-same : (secret : List ℕ) (c : Cause) → replyMac secret q c ≡ replyMac secret p c
+  unfolding replyMac
+  sum-same secret c = rw (with-same c, length-same c, s .auth)
+
+  auth-same : (secret : List ℕ) (c : Cause) → replyAuth secret q c ≡ replyAuth secret p c
+  unfolding replyAuth
+  auth-same secret c = rw (with-same c, sum-same secret c, length-same c, s .auth)
+
+  reply-same : (secret : List ℕ) (c : Cause) → replyOf secret q c ≡ replyOf secret p c
+  unfolding replyOf
+  reply-same secret c = rw (with-same c, sum-same secret c, auth-same secret c)
+
+  pub buffer-same : (secret b : List ℕ) (a : D.Answer) → replyAs secret q b a ≡ replyAs secret p b a
+  buffer-same secret b (A.Refused n) = refl
+  buffer-same secret b (A.Discarded d) = refl
+  buffer-same secret b (A.Stale skew) = refl
+  buffer-same secret b (A.Nak c skew n) = rw (reply-same secret)
+  buffer-same secret b (A.Ack k skew n) = rw (reply-same secret)
+
+  -- ---- the commit
+
+  pub answer-same : (m t : List ℕ) (skew : ℤ) → commitAnswer q m t skew ≡ commitAnswer p m t skew
+  unfolding commitAnswer countAnswer
+  answer-same m t skew = rw (length-same SessionNotFound, length-same NoCause)
+
+  pub table-same : (m t : List ℕ) → commitTable q m t ≡ commitTable p m t
+  unfolding commitTable
+  table-same m t = rw (s .area, s .code)

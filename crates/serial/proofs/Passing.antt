@@ -1,0 +1,80 @@
+-- A request that passed Check holds when read again, and its skew can be told again. A pass means: type 80 is right, so of length 18 if there is one;
+-- the stamp is usable, and the skew is that of the stamp; none of causes 1 to 6 applies.
+-- Assumes nothing.
+use mathlib.Core.Path.{_≡_, refl, sym, _∙_}
+use mathlib.Core.Bool.{Bool, true, false, not, _||_, false≢true}
+use mathlib.Core.List.{List}
+use Prim.Native.Nat.{ℕ, _≤_}
+use native.Mathlib.Omega.{arith}
+use borrow.Author.Tests.{eq-eqb, ltb-false}
+use lib.Dec.{eqb}
+use lib.IntN.{ℤ}
+use Rattle.attributes.specs.declared.Search.{Search}
+use Rattle.attributes.specs.declared.Search.the-variants.{At, Missing}
+use Rattle.attributes.specs.Attributes.{attributes, any, found, firstOf, onFirst, countOf, kindIs}
+use Rattle.attributes.proofs.Searches.{only}
+use Rattle.survey.specs.Survey.{sizeOf}
+use Rattle.signing.specs.Signing.{zeros}
+use Rattle.stamps.specs.Stamp.{stampOf}
+use Rattle.causes.specs.Causes.{causeOf}
+use Rattle.rules.specs.declared.Verdict.the-variants as J
+use Rattle.rules.specs.Packet.{codeOf, lengthOf, areaOf}
+use Rattle.rules.specs.Settings.{Settings}
+use Rattle.rules.specs.Discards.{badMac}
+use Rattle.rules.specs.Verdict.{applies, nakOr, freshVerdict, checkVerdict}
+use Rattle.replies.proofs.Judged.{mac-eighteen}
+use Rattle.handler.proofs.Fresh.{reached, uncaused}
+use Rattle.jobs.specs.Reread.{usable, oddMac, holdsPassed}
+use Rattle.jobs.specs.Moves.{skewAt}
+use Rattle.serial.proofs.Same.{SamePacket, same-holds}
+
+-- signed says whether D4 left it
+pub record Passing (g : Settings) (signed : Bool) (p : List ℕ) (clock : ℕ) : Type 0 where
+  pub verdict : checkVerdict g signed p clock ≡ J.Passed (skewAt (stampOf (areaOf p)) clock)
+  pub stamped : usable (stampOf (areaOf p)) ≡ true
+  pub even : any oddMac (attributes (areaOf p)) ≡ false
+  pub uncaused-is : applies (causeOf (codeOf p) (g .address) (g .name) (areaOf p)) ≡ false
+
+-- ---- D5
+
+first-half : (a b : Bool) → (a || b) ≡ false → a ≡ false
+first-half true b h = absurd (false≢true (sym h))
+first-half false b h = refl
+
+odd-first : (x : Search) → (found x ≡ true → sizeOf x ≡ 18) → onFirst (λ a. not (eqb (a .size) 18)) x ≡ false
+odd-first (At a) h = rw (eq-eqb (a .size) 18 (h refl))
+odd-first Missing h = refl
+
+no-odd : (secret p : List ℕ) → badMac zeros secret p ≡ false → any oddMac (attributes (areaOf p)) ≡ false
+unfolding badMac
+no-odd secret p h =
+    let once : countOf (kindIs 80) (attributes (areaOf p)) ≤ 1 = ltb-false 1 (countOf (kindIs 80) (attributes (areaOf p))) (first-half _ _ h) in
+    only (kindIs 80) (λ a. not (eqb (a .size) 18)) (attributes (areaOf p)) once
+    ∙ odd-first (firstOf (kindIs 80) (attributes (areaOf p))) (mac-eighteen zeros secret p h)
+
+-- ---- the pass
+
+module _ (g : Settings) (p : List ℕ) (clock : ℕ) (k : ℤ) where
+  signed-true : (b : Bool) → checkVerdict g b p clock ≡ J.Passed k → b ≡ true
+  unfolding checkVerdict
+  signed-true true e = refl
+  signed-true false e = let o : _≡_ {A = ℕ} 0 1 = cc in absurd (omega arith)
+
+  pub passing : (signed : Bool) → checkVerdict g signed p clock ≡ J.Passed k → Passing g signed p clock
+  unfolding freshVerdict nakOr
+  passing signed e =
+      let s : signed ≡ true = signed-true signed e in
+      let e′ : checkVerdict g true p clock ≡ J.Passed k = rw s at e in
+      let r = reached g p clock (J.Passed k) refl (sym e′) in
+      let c = uncaused g p clock (J.Passed k) (sym e′) k refl in
+      record {
+        verdict = e ∙ r .is ∙ rw (c, r .usable);
+        stamped = rw (r .usable);
+        even = no-odd (g .secret) p (r .right);
+        uncaused-is = rw c;
+      }
+
+-- so it holds when read again
+pub passing-holds : (g : Settings) (signed : Bool) (p q : List ℕ) (clock : ℕ) → SamePacket p q → Passing g signed p clock → holdsPassed g (lengthOf p) q ≡ true
+unfolding holdsPassed
+passing-holds g signed p q clock s h = rw (same-holds p q s, s .area, s .code, h .stamped, h .even, h .uncaused-is)
