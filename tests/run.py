@@ -2,6 +2,7 @@
 import faulthandler
 import sys
 
+import c_cases
 import cause_cases
 import discard_cases
 import equal_cases
@@ -52,6 +53,7 @@ MODULES = [
     handle_session_cases,
     handle_reply_cases,
     handle_random_cases,
+    c_cases,
 ]
 
 faulthandler.enable()  # a byte touched behind a fence ends the process: say in which test
