@@ -39,7 +39,6 @@ def nulls(probe, tally):
 
 def sample(probe, tally):
     """The sample gate prints what is stored, and that is what the second implementation answers."""
-    tally.same(PLACE.read_text(), sample_requests.header(), "samples/requests.h is as tests/sample_requests.py writes it")
     stored = (ROOT / "samples" / "rooms.stdout").read_text()
     tally.same(ran(["gcc", "-std=c99"], ["samples/rooms.c", "samples/show.c"]), stored, "the sample gate")
     shown = re.split(r"^\d+\. ", stored, flags=re.M)[1:]

@@ -20,6 +20,7 @@ import runner
 import self_cases
 import signature_cases
 import stamp_cases
+import stored_cases
 import table_change_cases
 import table_end_cases
 import table_match_cases
@@ -54,6 +55,7 @@ MODULES = [
     handle_reply_cases,
     handle_random_cases,
     c_cases,
+    stored_cases,
 ]
 
 faulthandler.enable()  # a byte touched behind a fence ends the process: say in which test
