@@ -7,9 +7,9 @@ for tool in rt gcc; do
 done
 mkdir -p target/demo
 
-# Runs a command of rt, and shows how far it is.
+# Runs a command of rt, and shows how far it is; what was proved before is not told again.
 proved() { # COMMAND...
-    { "$@" 2>&1; echo $? >target/demo/status; } | tee target/demo/proofs | sed -n 's/^rt: /    /p'
+    { "$@" 2>&1; echo $? >target/demo/status; } | tee target/demo/proofs | sed -n '/(unchanged since/d; s/^rt: /    /p'
     [ "$(cat target/demo/status)" -eq 0 ] && return
     cat target/demo/proofs
     echo 'demo: not proved' >&2
