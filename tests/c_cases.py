@@ -55,7 +55,11 @@ def archive(probe, tally):
     symbols = [line.split()[:2] for line in run.stdout.splitlines() if len(line.split()) > 1]
     tally.same([name for name, kind in symbols if kind == "U" and name not in OF_C], [], "what the archive calls")
     tally.same([name for name, kind in symbols if kind in "BbDdCcSsGg"], [], "what the archive keeps")
-    tally.same([name for name, kind in symbols if kind == "T"], ["fbk_handle"], "what the archive offers")
+    offered = {name for name, kind in symbols if kind == "T"}
+    declared = set(re.findall(r"^[a-z].* \*?(\w+)\(", (ROOT / "include" / "fumbokeri.h").read_text(), re.M))
+    tally.same(declared - offered, set(), "declared, and not in the archive")
+    tally.same({name for name in offered if not name.startswith("fbk_")}, set(), "names that are not the library's")
+    tally.same("fbk_handle" in declared, True, "fbk_handle is declared")
 
 
 GROUPS = [
