@@ -1,7 +1,7 @@
 # What this repository does. The work is in the scripts under tests/ and bench/.
 .PHONY: demo test bench
 
-# the proved code at work, on the vectors of the RFCs
+# the proved code at work: on the vectors of the RFCs, and in a small gate in C
 demo:
 	@tests/demo.sh
 

@@ -1,8 +1,10 @@
-"""Measures the proved code beside OpenSSL and plain C, the walk over the session table and the verdict: python3 bench/measure.py BENCH WALK VERDICT. Fails where a target is missed."""
+"""Measures the proved code beside OpenSSL and plain C, the walk over the session table, the verdict and whole requests:
+python3 bench/measure.py BENCH WALK VERDICT HANDLE. Fails where a target is missed."""
 import subprocess
 import sys
 
 import callgrind
+import handle
 import verdict
 import walk
 
@@ -49,12 +51,14 @@ def digests(bench):
 
 
 def main():
-    bench, walker, judge = sys.argv[1:]
+    bench, walker, judge, handler = sys.argv[1:]
     missed = digests(bench)
     print()
     missed += walk.slots(walker)
     print()
     missed += verdict.verdicts(bench, judge)
+    print()
+    missed += handle.requests(handler)
     for line in missed:
         print("missed:", line)
     print("failed: a target is missed" if missed else "every target is met")

@@ -1,8 +1,9 @@
 """The NAK causes 401 to 506, first that applies."""
 from itertools import product
 
+from judging import judged
 from packets import CLOCK, COA, CODES, DISCONNECT, GATE, MAC, STAMP, TIMEOUT, USER
-from packets import Gate, attribute, good, judged, request, stamp
+from packets import Gate, attribute, good, request, stamp
 from samples import sample
 
 # Document 01's lists once more, so that an error in the model's shows.

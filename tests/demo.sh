@@ -1,26 +1,43 @@
 #!/bin/sh
-# The demonstration, `make demo`: proves the code, then runs it on the vectors of the RFCs.
+# The demonstration, `make demo`: proves the code, runs it on the vectors of the RFCs, then lets a small gate in C work with the library.
 set -u
 cd "$(dirname "$0")/.." || exit 1
-command -v rt >/dev/null || { echo 'demo: rt, the tool of Rattle, is not installed' >&2; exit 1; }
+for tool in rt gcc; do
+    command -v "$tool" >/dev/null || { echo "demo: $tool is not installed" >&2; exit 1; }
+done
+mkdir -p target/demo
+
+# Runs a command of rt, and shows how far it is; what was proved before is not told again.
+proved() { # COMMAND...
+    { "$@" 2>&1; echo $? >target/demo/status; } | tee target/demo/proofs | sed -n '/(unchanged since/d; s/^rt: /    /p'
+    [ "$(cat target/demo/status)" -eq 0 ] && return
+    cat target/demo/proofs
+    echo 'demo: not proved' >&2
+    exit 1
+}
+
+# What a program writes must be what is stored.
+shown() { # PROGRAM STORED
+    "$1" >target/demo/output || { echo "demo: $1 ended with status $?" >&2; exit 1; }
+    sed 's/^/    /' target/demo/output
+    echo
+    cmp target/demo/output "$2" || { echo "demo: this is not what $2 has" >&2; exit 1; }
+}
 
 echo 'Fumbokeri: the receiving side of RADIUS Dynamic Authorization, proved.'
 echo
 echo 'First the proofs. From nothing they take some minutes.'
 echo
-mkdir -p target/demo
-{ rt check vectors 2>&1; echo $? >target/demo/status; } | tee target/demo/proofs | sed -n 's/^rt: /    /p'
-if [ "$(cat target/demo/status)" -ne 0 ]; then
-    cat target/demo/proofs
-    echo 'demo: not proved' >&2
-    exit 1
-fi
+proved rt check vectors
+proved rt staticlib capi
 echo
-echo 'Then the proved code, run on the examples that the RFCs print.'
+echo 'Then the proved code, run on the examples that the RFCs print and on stored packets.'
 echo
-target/bin/vectors >target/demo/vectors || { echo "demo: target/bin/vectors ended with status $?" >&2; exit 1; }
-sed 's/^/    /' target/demo/vectors
+shown target/bin/vectors crates/vectors/stdout
+echo 'All as in the RFCs and as the second implementation answers.'
 echo
-# What the program must write was taken from the RFCs.
-cmp target/demo/vectors crates/vectors/stdout || { echo 'demo: this is not what the RFCs have' >&2; exit 1; }
-echo 'All as in the RFCs.'
+echo 'Last, a gate in a care home: samples/rooms.c, a C program over the library, takes the requests of its billing server.'
+echo
+gcc -std=c99 -Wall -Wextra -O2 -o target/demo/rooms samples/rooms.c samples/show.c target/staticlib/libcapi.a || exit 1
+shown target/demo/rooms samples/rooms.stdout
+echo 'All as the second implementation answers.'

@@ -1,6 +1,7 @@
 """The silent discards D1 to D5, first that applies."""
+from judging import judged
 from packets import CODES, DISCONNECT, GATE, MAC, STAMP, USER
-from packets import attribute, flipped, good, judged, put_macs, request, sign, unsigned
+from packets import attribute, flipped, good, put_macs, request, sign, unsigned
 from samples import sample
 
 

@@ -4,7 +4,7 @@ set -u
 cd "$(dirname "$0")/.." || exit 1
 mkdir -p target/tests
 set -- # the libraries
-for name in probe probe_packets probe_table; do
+for name in probe probe_packets probe_table capi; do
     rt staticlib "$name" || exit 1
     gcc -shared -o "target/tests/lib$name.so" -Wl,--whole-archive "target/staticlib/lib$name.a" -Wl,--no-whole-archive || exit 1
     set -- "$@" "target/tests/lib$name.so"

@@ -1,7 +1,6 @@
-"""Requests to test with, and how the proved verdict is held beside the model."""
+"""Requests to test with."""
 import packet_model
 from packet_model import Gate
-from probe import cell, cell64
 
 GATE = Gate(b"xyzzy5461", 0xC0000207, b"gate-7")
 CLOCK = 1_700_000_000
@@ -23,10 +22,10 @@ TIMEOUT = attribute(27, (3600).to_bytes(4, "big"))
 MAC = attribute(80, bytes(16))  # where it stands in a list, `request` puts the right value
 
 
-def unsigned(code, parts, length=None):
+def unsigned(code, parts, length=None, identifier=7):
     """Packet of these attributes, its authenticator zeros."""
     area = b"".join(parts)
-    return bytes([code, 7]) + (20 + len(area) if length is None else length).to_bytes(2, "big") + bytes(16) + area
+    return bytes([code, identifier]) + (20 + len(area) if length is None else length).to_bytes(2, "big") + bytes(16) + area
 
 
 def sign(p, secret=GATE.secret):
@@ -45,9 +44,9 @@ def put_macs(p, parts, secret=GATE.secret):
     return p
 
 
-def request(code, parts, gate=GATE):
+def request(code, parts, gate=GATE, identifier=7):
     """Rightly signed."""
-    return sign(put_macs(unsigned(code, parts), parts, gate.secret), gate.secret)
+    return sign(put_macs(unsigned(code, parts, identifier=identifier), parts, gate.secret), gate.secret)
 
 
 def good(code):
@@ -57,15 +56,3 @@ def good(code):
 
 def flipped(p, bit):
     return p[:bit // 8] + bytes([p[bit // 8] ^ 1 << bit % 8]) + p[bit // 8 + 1:]
-
-
-def judged(probe, tally, p, *case, number=None, gate=GATE, clock=CLOCK):
-    """One test: the proved verdict is the model's, with nothing lent written to. Both say `number`, where it is given."""
-    told, skew = packet_model.verdict(p, gate, clock)
-    if number is not None and told != number:
-        tally.same(told, number, "the model", *case)
-        return told
-    wanted = (told, p, gate.secret, gate.name, cell64(skew or 0), cell(0 if skew is None else 1))
-    before = cell64(-0x1122334455667788), cell(0xEEEEEEEE)
-    tally.same(probe("verdict", p, gate.secret, gate.address, gate.name, clock, *before), wanted, *case)
-    return told

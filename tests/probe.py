@@ -30,7 +30,9 @@ SIGNATURES = {
     "table_change": BYTES + BYTES + BYTES + U32 + (U32 + U32) * 2 + U32 + SIZE + SIZE + POINTER,
     "table_insert": BYTES + U32 * 4 + BYTES * 4 + POINTER,
     "table_remove": BYTES + SIZE,
+    "handle": BYTES + BYTES + U32 + BYTES + BYTES + BYTES + U32 + POINTER * 4,
 }
+PRODUCT = {"handle"}  # fbk_NAME of the product's own library; the others are probe_NAME
 
 NULL = None  # a run of no bytes that lies nowhere
 
@@ -58,13 +60,13 @@ class Probe:
         libraries = [ctypes.CDLL(path) for path in paths]
         self.functions = {}
         for name, words in SIGNATURES.items():
-            function = found(libraries, "probe_" + name)
+            function = found(libraries, ("fbk_" if name in PRODUCT else "probe_") + name)
             function.argtypes, function.restype = words, ctypes.c_uint32
             self.functions[name] = function
         self.rooms = [Room() for _ in range(max(map(len, SIGNATURES.values())))]
 
     def __call__(self, name, *arguments):
-        """What probe_NAME returns, and then each run of bytes as it is after the call, read or written."""
+        """What the function returns, and then each run of bytes as it is after the call, read or written."""
         words, laid = [], []
         for room, argument in zip(self.rooms, arguments):
             if argument is NULL:

@@ -2,7 +2,8 @@
 from collections import Counter
 from random import Random
 
-from packets import CLOCK, GATE, MAC, STAMP, TIMEOUT, USER, attribute, flipped, judged, put_macs, sign, stamp, unsigned
+from judging import judged
+from packets import CLOCK, GATE, MAC, STAMP, TIMEOUT, USER, attribute, flipped, put_macs, sign, stamp, unsigned
 
 ROUNDS = 12000
 VERDICTS = [0, *range(101, 107), *range(401, 406), 506]

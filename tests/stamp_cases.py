@@ -1,5 +1,6 @@
 """D6: the stamp, the clock and the skew."""
-from packets import CLOCK, CODES, MAC, STAMP, TIMEOUT, USER, attribute, good, judged, request, stamp
+from judging import judged
+from packets import CLOCK, CODES, MAC, STAMP, TIMEOUT, USER, attribute, good, request, stamp
 
 LAST = 2**32 - 1
 CLOCKS = [0, 1, 299, 300, 301, 2**31 - 1, 2**31, CLOCK, LAST - 301, LAST - 300, LAST - 1, LAST]

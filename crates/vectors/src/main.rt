@@ -1,4 +1,7 @@
-// The vectors of RFC 1321, A.5, and of RFC 2202, 2, one line each: its name and its digest.
+// The vectors of RFC 1321, A.5, and of RFC 2202, 2, one line each: its name and its digest. Then stored packets.
+mod packets; // packets.rt: a packet through the handler
+mod stored; // stored.rt: the packets
+
 ghost use mathlib.Core.Path.{_≡_};
 ghost use Prim.Native.Nat.{_<_};
 ghost use lib.ListN.{length};
@@ -120,4 +123,8 @@ fn hmac_suite() {
 fn main() {
     md5_suite();
     hmac_suite();
+    packets::start();
+    stored::discards();
+    stored::naks();
+    stored::acks();
 }

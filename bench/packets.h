@@ -1,0 +1,15 @@
+/* Requests to measure with: Disconnect-Requests of now, signed. */
+#include <stddef.h>
+#include <stdint.h>
+
+static const uint8_t secret[10] = {'1', '0', ' ', 'l', 'e', 't', 't', 'e', 'r', 's'}, nas_id[6] = {'g', 'a', 't', 'e', '-', '7'};
+static const uint32_t nas_ip = 0xC0000207, clock_now = 1700000000;
+
+extern uint8_t packet[4096];
+extern size_t length;
+
+/* For the session of alice@example.org: 102 bytes, or 120 with a Message-Authenticator, last. */
+void make_disconnect(int with_mac);
+
+/* Length n of Proxy-States of so many bytes each; the last is longer where they do not fill it. */
+void make_states(size_t n, size_t each);

@@ -1,0 +1,15 @@
+/* Packets and sessions in words, for samples/rooms.c. */
+#include <stddef.h>
+#include <stdint.h>
+
+/* A number in four bytes, high byte first. */
+uint32_t number_at(const uint8_t *p);
+
+/* The packet in hex, and then by its attributes. */
+void show_packet(const char *what, const uint8_t *packet);
+
+/* Slot k of a session table in a line. */
+void show_slot(const char *when, size_t k, const uint8_t *slot);
+
+/* What fbk_handle told. */
+void show_answer(uint32_t answer, uint32_t changed, int64_t skew, uint32_t stamped);

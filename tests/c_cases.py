@@ -1,0 +1,69 @@
+"""C programs over the header and the archive: what firmware sees."""
+import re
+import shutil
+import subprocess
+
+import sample_requests
+from sample_requests import PLACE
+
+ROOT = PLACE.parent.parent
+ARCHIVE = ROOT / "target" / "staticlib" / "libcapi.a"
+STRICT = ["-pedantic", "-Wall", "-Wextra", "-Wconversion", "-Werror", "-O2"]
+LANGUAGES = [["gcc", "-std=c99", "-x", "c"], ["gcc", "-std=c11", "-x", "c"], ["g++", "-std=c++11", "-x", "c++"]]
+KEPT, NONE = "5 6 -8 7", "0 0 0 0"  # the four numbers: as they were, or as a discard without a stamp writes them
+NULLS = [
+    f"none: 104, {NONE}", f"table: 1, {KEPT}", f"secret: 2, {KEPT}", f"nas_id: 3, {KEPT}", f"reply: 4, {KEPT}", f"packet: 101, {NONE}",
+    f"all but the table: 2, {KEPT}", f"all: 1, {KEPT}",
+]
+OF_C = {"memcpy", "memmove", "memset", "memcmp", "bcmp"}  # what a compiler may call by itself
+
+
+def ran(command, sources):
+    """What the program prints; what is wrong where it cannot be had."""
+    program = ROOT / "target" / "tests" / "program"
+    built = subprocess.run([*command, *STRICT, *sources, "-x", "none", ARCHIVE, "-o", program], cwd=ROOT, capture_output=True, text=True)
+    if built.returncode != 0:
+        return built.stderr
+    run = subprocess.run([program], capture_output=True, text=True, timeout=60)
+    return run.stdout if run.returncode == 0 else f"status {run.returncode}"
+
+
+def nulls(probe, tally):
+    for language in LANGUAGES:
+        if shutil.which(language[0]) is None:
+            print(f"   not tried: {language[0]} is not installed")
+            continue
+        for got, wanted in zip(ran(language, ["tests/header.c"]).splitlines() + [""] * len(NULLS), NULLS):
+            tally.same(got, wanted, *language)
+
+
+def sample(probe, tally):
+    """The sample gate prints what is stored, and that is what the second implementation answers."""
+    stored = (ROOT / "samples" / "rooms.stdout").read_text()
+    tally.same(ran(["gcc", "-std=c99"], ["samples/rooms.c", "samples/show.c"]), stored, "the sample gate")
+    shown = re.split(r"^\d+\. ", stored, flags=re.M)[1:]
+    for text, told in zip(shown, sample_requests.answers(), strict=True):
+        numbers = re.search(r"^  answer   (\d+): ", text, re.M)[1], (re.search(r"changed: (\d+)", text) or "00")[1]
+        tally.same(numbers, (str(told.answer), str(told.changed)), "answer to:", text.splitlines()[0])
+        packet = re.search(r"^  reply   ((?:[ \n]+[0-9a-f]{2})+)$", text, re.M)
+        tally.same(bytes.fromhex(packet[1]) if packet else b"", told.reply[:told.reply_len], "reply to:", text.splitlines()[0])
+
+
+def archive(probe, tally):
+    """No state, no allocation: nothing but functions and constants, and of others' only what copies, fills and compares."""
+    run = subprocess.run(["nm", "-P", ARCHIVE], capture_output=True, text=True)
+    symbols = [line.split()[:2] for line in run.stdout.splitlines() if len(line.split()) > 1]
+    tally.same([name for name, kind in symbols if kind == "U" and name not in OF_C], [], "what the archive calls")
+    tally.same([name for name, kind in symbols if kind in "BbDdCcSsGg"], [], "what the archive keeps")
+    offered = {name for name, kind in symbols if kind == "T"}
+    declared = set(re.findall(r"^[a-z].* \*?(\w+)\(", (ROOT / "include" / "fumbokeri.h").read_text(), re.M))
+    tally.same(declared - offered, set(), "declared, and not in the archive")
+    tally.same({name for name in offered if not name.startswith("fbk_")}, set(), "names that are not the library's")
+    tally.same("fbk_handle" in declared, True, "fbk_handle is declared")
+
+
+GROUPS = [
+    ("C: NULL where a length is 0, in C and C++", nulls),
+    ("C: the sample gate", sample),
+    ("C: the archive keeps nothing and allocates nothing", archive),
+]

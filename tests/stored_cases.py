@@ -1,0 +1,27 @@
+"""What is written by the second implementation and stored is what it writes now."""
+import sample_requests
+import stored_packets
+
+
+def files(probe, tally):
+    tally.same(sample_requests.PLACE.read_text(), sample_requests.header(), "samples/requests.h, by tests/sample_requests.py")
+    tally.same(stored_packets.SOURCE.read_text(), stored_packets.source(), "crates/vectors/src/stored.rt, by tests/stored_packets.py")
+    written = stored_packets.others() + stored_packets.lines()
+    tally.same(stored_packets.STDOUT.read_text(), written, "crates/vectors/stdout, by tests/stored_packets.py")
+
+
+def answers(probe, tally):
+    """The stored packets are answered as their names say, and the marked NAK 503 is among them."""
+    for name, packet in [case for cases in stored_packets.GROUPS.values() for case in cases]:
+        word = name.replace(",", "").split()[0]
+        wanted = 0 if word == "ACK" else 100 + int(word[1]) if word[0] == "D" else int(word)
+        told = stored_packets.line(name, packet).split(" answer ")[1].split()[0]
+        tally.same(int(told), wanted, "stored packet", name)
+    nak = stored_packets.line("503", dict(stored_packets.GROUPS["naks"])["503"]).split(" reply ")[1].strip()
+    tally.same((nak[:8], nak[40:]), ("2a07001d", "6506000001f7210341"), "the marked NAK 503")
+
+
+GROUPS = [
+    ("stored files are as they are written now", files),
+    ("stored packets are answered by their names", answers),
+]
