@@ -37,7 +37,6 @@ pub fn write_reply(
     let body = parts::put_body(&mut *reply, s, p[0], cause, f, count, ends, sizes);
     let e = frame::put_room(&mut *reply, body, present);
     parts::put_head(&mut *reply, p, cause, e, auth);
-    seal::put_mac(&mut *reply, e, auth, secret, present);
-    seal::put_authenticator(reply, e, auth, secret);
+    seal::put_seals(reply, e, auth, secret, present);
     e
 }

@@ -8,7 +8,7 @@ ghost use Rattle.signing.specs.Signing.{authenticator};
 ghost use Rattle.reply.specs.Rooms.{macRoom, withMac};
 
 // Writes the Message-Authenticator, where the packet has one.
-pub fn put_mac(t: &mut [u8], n: usize, auth: &[u8], secret: &[u8], present: bool)
+fn put_mac(t: &mut [u8], n: usize, auth: &[u8], secret: &[u8], present: bool)
     requires { ⌜ (20 + length (macRoom «present») ≤ n) × (n ≤ length (now t)) × (length (now auth) ≡ 16) ⌝ }
     ensures { λ _. ⌜ now (t .exit) ≡ withMac «present» (now (auth .entry)) (now (t .entry)) n (now (secret .entry)) ⌝ }
 {
@@ -21,10 +21,19 @@ pub fn put_mac(t: &mut [u8], n: usize, auth: &[u8], secret: &[u8], present: bool
 }
 
 // Writes the authenticator.
-pub fn put_authenticator(t: &mut [u8], n: usize, auth: &[u8], secret: &[u8])
+fn put_authenticator(t: &mut [u8], n: usize, auth: &[u8], secret: &[u8])
     requires { ⌜ (20 ≤ n) × (n ≤ length (now t)) × (length (now auth) ≡ 16) ⌝ }
     ensures { λ _. ⌜ now (t .exit) ≡ write (now (t .entry)) 4 (authenticator (now (auth .entry)) (now (t .entry)) n (now (secret .entry))) ⌝ }
 {
     let d = signing::authenticator(&*t, n, auth, secret);
     octets::copy(t, 4, &d);
+}
+
+// Both: the Message-Authenticator is worked out before the authenticator.
+pub fn put_seals(t: &mut [u8], n: usize, auth: &[u8], secret: &[u8], present: bool)
+    requires { ⌜ (20 + length (macRoom «present») ≤ n) × (n ≤ length (now t)) × (length (now auth) ≡ 16) ⌝ }
+    ensures { λ _. ⌜ now (t .exit) ≡ write (withMac «present» (now (auth .entry)) (now (t .entry)) n (now (secret .entry))) 4 (authenticator (now (auth .entry)) (withMac «present» (now (auth .entry)) (now (t .entry)) n (now (secret .entry))) n (now (secret .entry))) ⌝ }
+{
+    put_mac(&mut *t, n, auth, secret, present);
+    put_authenticator(&mut *t, n, auth, secret);
 }

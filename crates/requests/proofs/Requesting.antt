@@ -71,8 +71,8 @@ module _ (g : List ℕ) (code identifier : ℕ) (add : Bool) (good : badGiven (d
         let short = given-short in
         sealed secret zeros head g l add four length-zeros (omega arith) add t₃ (withMac add zeros t₃ e secret) t₄ refl w₃ (rw he) (e₄ ∙ rw he)
 
--- the two signatures over the sixteen zeros z
-pub seals-over : (z t t₁ t₂ secret : List ℕ) (add : Bool) (n : ℕ) → z ≡ replicate 16 0 → t₁ ≡ withMac add z t n secret → t₂ ≡ write t₁ 4 (authenticator z t₁ n secret)
+-- the signatures over the sixteen zeros z
+pub seals-over : (z t t₂ secret : List ℕ) (add : Bool) (n : ℕ) → z ≡ replicate 16 0 → t₂ ≡ write (withMac add z t n secret) 4 (authenticator z (withMac add z t n secret) n secret)
     → t₂ ≡ write (withMac add zeros t n secret) 4 (authenticator zeros (withMac add zeros t n secret) n secret)
 unfolding zeros
-seals-over z t t₁ t₂ secret add n e e₁ e₂ = e₂ ∙ rw (e₁, e)
+seals-over z t t₂ secret add n e e₂ = e₂ ∙ rw e

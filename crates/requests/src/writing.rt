@@ -88,8 +88,7 @@ fn put_seals(out: &mut [u8], n: usize, add: bool, secret: &[u8])
     ensures { λ _. ⌜ now (out .exit) ≡ write (withMac «add» zeros (now (out .entry)) n (now (secret .entry))) 4 (authenticator zeros (withMac «add» zeros (now (out .entry)) n (now (secret .entry))) n (now (secret .entry))) ⌝ }
 {
     let zero = [0u8; 16];
-    reply::seal::put_mac(&mut *out, n, &zero, secret, add);
-    reply::seal::put_authenticator(&mut *out, n, &zero, secret);
+    reply::seal::put_seals(out, n, &zero, secret, add);
 }
 
 // Writes a request that is not refused, and returns its length.

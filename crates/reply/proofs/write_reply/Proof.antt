@@ -1,6 +1,6 @@
 -- `reply::write_reply` meets its contract: each call leaves one part more of the definition's reply, and the last two its signatures.
 -- Assumes nothing.
-use mathlib.Core.Path.{_≡_}
+use mathlib.Core.Path.{_≡_, refl}
 use Prim.Native.Nat.{_+_, _≤_}
 use native.Mathlib.Omega.{arith}
 use denote.Ref.{now}
@@ -37,35 +37,24 @@ put-head-requires c κs =
     let start = s2 .before .before .before .before .before in
     ((omega (arith, start .pre), omega (arith, start .pre), code-low _ (start .pre .0 .1), auth-long _ _ _ (start .pre .0 .0) (s2 .slice2 .ensures)), (ends room, omega (arith, ends room, start .pre)))
 
-put-mac-requires : tie.Need-put-mac-requires
-put-mac-requires c κs =
+put-seals-requires : tie.Need-put-seals-requires
+put-seals-requires c κs =
     let room = c .before .before .before .before .before .before .before in
     let s2 = room .before .before .before .before .before .before .before .before in
     let start = s2 .before .before .before .before .before in
     (low room, omega (arith, ends room, start .pre), auth-long _ _ _ (start .pre .0 .0) (s2 .slice2 .ensures))
 
-put-authenticator-requires : tie.Need-put-authenticator-requires
-put-authenticator-requires c κs =
-    let mac = c .before .before .before in
-    let head = mac .before .before .before .before in
-    let room = head .before .before .before .before in
-    let body = room .before .before .before .before in
-    let s2 = room .before .before .before .before .before .before .before .before in
-    let start = s2 .before .before .before .before .before in
-    (omega (arith, low room), omega (arith, ends room, start .pre, mac .put-mac .kept, head .put-head .kept, room .put-room .kept, body .put-body .kept), auth-long _ _ _ (start .pre .0 .0) (s2 .slice2 .ensures))
-
 returns : tie.Need-returns
 returns c =
-    let signed = c .before .before in
-    let mac = signed .before .before .before .before in
-    let head = mac .before .before .before .before in
+    let sealed = c .before .before in
+    let head = sealed .before .before .before .before in
     let room = head .before .before .before .before in
     let body = room .before .before .before .before in
     let has = body .before .before .before in
     let s2 = has .before in
     let start = s2 .before .before .before .before .before in (
       replied _ _ _ (start .args .cause) (start .pre .0 .0) (s2 .before .slice .ensures) _ _ _ _ (start .pre .1 .0) _ (has .has .ensures) _ (body .put-body .ensures .1) _ (room .put-room .ensures .1)
-          _ _ _ _ _ _ _ _ (s2 .slice2 .ensures) (start .pre .1 .1 .0) (start .pre .1 .1 .1) (body .put-body .ensures .0) (room .put-room .ensures .0) (head .put-head .ensures) (mac .put-mac .ensures) (signed .put-authenticator .ensures),
+          _ _ _ _ _ _ _ _ (s2 .slice2 .ensures) (start .pre .1 .1 .0) (start .pre .1 .1 .1) (body .put-body .ensures .0) (room .put-room .ensures .0) (head .put-head .ensures) refl (sealed .put-seals .ensures),
       ends room,
     )
 
@@ -81,7 +70,6 @@ write-reply-spec =
     put-body-requires
     put-room-requires
     put-head-requires
-    put-mac-requires
-    put-authenticator-requires
+    put-seals-requires
     (λ c. search needs)
     returns)
