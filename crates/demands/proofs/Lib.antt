@@ -3,3 +3,5 @@ pub mod Acked
 pub mod Second
 pub mod Discarding
 pub mod Handled
+pub mod Exchanged
+pub mod Quitting
