@@ -5,3 +5,8 @@ pub mod Discarding
 pub mod Handled
 pub mod Exchanged
 pub mod Quitting
+pub mod Telling
+pub mod Stepped
+pub mod Opened
+pub mod Scheduled
+pub mod First
