@@ -16,7 +16,6 @@ use Rattle.rules.specs.Settings.{Settings}
 use Rattle.rules.specs.Discards.{formOf, signedBy}
 use Rattle.rules.specs.Verdict.{checkVerdict, verdictOf}
 use Rattle.effects.specs.Matching.{matchCount}
-use Rattle.answers.specs.declared.Answer as D
 use Rattle.answers.specs.declared.Answer.the-variants as A
 use Rattle.answers.specs.Commit.{countAnswer}
 use Rattle.handler.specs.Refusals.{refusalOf}

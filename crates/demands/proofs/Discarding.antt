@@ -65,7 +65,7 @@ module _ (g : Settings) (p : List ℕ) (clock : ℕ) where
   check-among false = refl
 
 -- 1 to 3, and 4 to 6, are among 1 to 6
-or-right : (a b : Bool) → b ≡ true → (a || b) ≡ true
+pub or-right : (a b : Bool) → b ≡ true → (a || b) ≡ true
 or-right true b h = refl
 or-right false b h = h
 

@@ -10,7 +10,6 @@ use lib.IntN.{ℤ}
 use lib.ListN.{length}
 use Rattle.survey.specs.Types.{member}
 use Rattle.slots.specs.Slot.{slotCount}
-use Rattle.stamps.specs.Stamp.{stale}
 use Rattle.causes.specs.declared.Cause.the-variants.{SessionNotFound}
 use Rattle.rules.specs.declared.Verdict as R
 use Rattle.rules.specs.declared.Verdict.the-variants as J

@@ -3,3 +3,10 @@ pub mod Acked
 pub mod Second
 pub mod Discarding
 pub mod Handled
+pub mod Exchanged
+pub mod Quitting
+pub mod Telling
+pub mod Stepped
+pub mod Opened
+pub mod Scheduled
+pub mod First

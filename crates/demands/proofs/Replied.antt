@@ -15,7 +15,6 @@ use Rattle.rules.specs.Discards.{formOf, Sized, signedBy}
 use Rattle.rules.specs.Verdict.{checkVerdict, verdictOf}
 use Rattle.rules.proofs.Forms.{good-sized, form-good}
 use Rattle.reply.specs.Reply.{replyLength}
-use Rattle.answers.specs.declared.Answer as D
 use Rattle.answers.specs.declared.Answer.the-variants as A
 use Rattle.handler.specs.Refusals.{refusalOf}
 use Rattle.handler.specs.Handle.{answerOf, handleAnswer}

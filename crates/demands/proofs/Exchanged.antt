@@ -1,0 +1,81 @@
+-- Demand 1 of the writer and the reply check: the number of a refusal is the first that its cascade of tests gives, and only where there is none is anything
+-- written. So the output after a refusal is the one handed in.
+-- Assumes nothing.
+use mathlib.Core.Path.{_≡_, refl, subst}
+use mathlib.Core.Bool.{Bool, true, false, cond, not, _||_}
+use mathlib.Core.List.{List, [], _∷_}
+use Prim.Native.Nat.{ℕ}
+use borrow.Author.Tests.{eqb-false}
+use lib.Dec.{eqb, ltb}
+use lib.ListN.{length}
+use Rattle.octets.specs.Runs.{write}
+use Rattle.survey.specs.Types.{member}
+use Rattle.rules.specs.Settings.{badSecret}
+use Rattle.requests.specs.declared.Written as W
+use Rattle.requests.specs.declared.Written.the-variants.{Done, NotWritten}
+use Rattle.requests.specs.declared.Checked as C
+use Rattle.requests.specs.declared.Checked.the-variants.{Right, Failed, NotChecked}
+use Rattle.requests.specs.Writer.{Draft, badGiven, writeRefusal, requestLength, requestOf, writeAnswer, writeOutput}
+use Rattle.requests.specs.ReplyCheck.{failureOf, checkAnswer}
+use Rattle.demands.specs.Demand1.{Exchanging}
+
+-- what holds of the number of a refusal; of any other answer nothing
+abbrev WhenRefused : (ℕ → Type 0) → W.Written → Type 0
+WhenRefused P (Done n) = Unit {0}
+WhenRefused P (NotWritten n) = P n
+
+abbrev WhenUnchecked : (ℕ → Type 0) → C.Checked → Type 0
+WhenUnchecked P Right = Unit {0}
+WhenUnchecked P (Failed v) = Unit {0}
+WhenUnchecked P (NotChecked n) = P n
+
+-- ---- the writer
+
+one-of : (x y z w : Bool) → (_≡_ {A = ℕ} (cond x 2 (cond y 4 (cond z 12 (cond w 13 0)))) 0 → ⊥) → member (cond x 2 (cond y 4 (cond z 12 (cond w 13 0)))) (2 ∷ 4 ∷ 12 ∷ 13 ∷ []) ≡ true
+one-of true y z w h = refl
+one-of false true z w h = refl
+one-of false false true w h = refl
+one-of false false false true h = refl
+one-of false false false false h = absurd (h refl)
+
+module _ (secret out : List ℕ) (d : Draft) where
+  refusal-one : (writeRefusal secret out d ≡ 0 → ⊥) → member (writeRefusal secret out d) (2 ∷ 4 ∷ 12 ∷ 13 ∷ []) ≡ true
+  unfolding writeRefusal
+  refusal-one h = one-of (badSecret secret) (ltb (length out) 4096) (not (eqb (d .code) 40 || eqb (d .code) 43)) (badGiven d) h
+
+  -- o is the output after it
+  abbrev Unwritten : List ℕ → ℕ → Type 0
+  Unwritten o n = (member n (2 ∷ 4 ∷ 12 ∷ 13 ∷ []) ≡ true) × (n ≡ writeRefusal secret out d) × (o ≡ out)
+
+  write-by : (f : Bool) → eqb (writeRefusal secret out d) 0 ≡ f
+      → WhenRefused (Unwritten (cond f (write out 0 (requestOf secret d)) out)) (cond f (Done (requestLength d)) (NotWritten (writeRefusal secret out d)))
+  write-by true h = tt
+  write-by false h = (refusal-one (eqb-false _ _ h), refl, refl)
+
+  write-so : WhenRefused (Unwritten (writeOutput secret out d)) (writeAnswer secret out d)
+  unfolding writeAnswer writeOutput
+  write-so = write-by (eqb (writeRefusal secret out d) 0) refl
+
+-- ---- the reply check
+
+abbrev Two : ℕ → Type 0
+Two n = n ≡ 2
+
+failed-so : (v : ℕ) (f : Bool) → WhenUnchecked Two (cond f Right (Failed v))
+failed-so v true = tt
+failed-so v false = tt
+
+check-by : (v : ℕ) (f h : Bool) → WhenUnchecked Two (cond f (NotChecked 2) (cond h Right (Failed v)))
+check-by v true h = refl
+check-by v false h = failed-so v h
+
+check-so : (secret q r : List ℕ) → WhenUnchecked Two (checkAnswer secret q r)
+unfolding checkAnswer
+check-so secret q r = check-by (failureOf secret q r) (badSecret secret) (eqb (failureOf secret q r) 0)
+
+pub exchanging : (secret out : List ℕ) (d : Draft) (q r : List ℕ) → Exchanging secret out d q r
+exchanging secret out d q r =
+    record {
+      write-refusals = λ n e. subst (WhenRefused (Unwritten secret out d (writeOutput secret out d))) e (write-so secret out d);
+      check-refusals = λ n e. subst (WhenUnchecked Two) e (check-so secret q r);
+    }

@@ -1,0 +1,98 @@
+-- Demand 1 of a step: a refusal is the first number of its cascade, and then nothing is touched; a discard is that of the job's move, which frees the job, leaves
+-- the table and writes no reply.
+-- Assumes nothing.
+use mathlib.Core.Path.{_≡_, refl, ap, subst}
+use mathlib.Core.Bool.{Bool, true, false, cond, not, _||_}
+use mathlib.Core.List.{List, [], _∷_}
+use Prim.Native.Nat.{ℕ}
+use borrow.Author.Tests.{eqb-false}
+use lib.Dec.{eqb, ltb}
+use lib.ListN.{length}
+use Rattle.survey.specs.Types.{member}
+use Rattle.slots.specs.Slot.{slotCount}
+use Rattle.answers.specs.declared.Answer as A′
+use Rattle.answers.specs.declared.Answer.the-variants as A
+use Rattle.jobs.specs.declared.Ending as E
+use Rattle.jobs.specs.declared.Ending.the-variants as K
+use Rattle.jobs.specs.declared.Moved as M
+use Rattle.jobs.specs.Job.{freeJob}
+use Rattle.jobs.specs.Moves.{movedTable, replyAfter}
+use Rattle.scheduler.specs.declared.Scheduler as D
+use Rattle.scheduler.specs.declared.Called as C
+use Rattle.scheduler.specs.declared.Outcome.the-variants as O
+use Rattle.scheduler.specs.Scheduler.{settingsOf, jobAt, openAt, withJob, partOf}
+use Rattle.scheduler.specs.Refusals.{stepRefusal}
+use Rattle.scheduler.specs.Calls.{called, steppedAs, movedOf, stepCalled, stepTable, stepReply}
+use Rattle.demands.proofs.Telling.{WhenRefused, WhenDone}
+use Rattle.demands.proofs.Quitting.{QuitAs, move-quits}
+
+one-of : (x y z w : Bool) → (_≡_ {A = ℕ} (cond x 1 (cond y 4 (cond z 5 (cond w 7 0)))) 0 → ⊥) → member (cond x 1 (cond y 4 (cond z 5 (cond w 7 0)))) (1 ∷ 4 ∷ 5 ∷ 7 ∷ []) ≡ true
+one-of true y z w h = refl
+one-of false true z w h = refl
+one-of false false true w h = refl
+one-of false false false true h = refl
+one-of false false false false h = absurd (h refl)
+
+refusal-one : (f : ℕ → Bool) (size j : ℕ) (t b : List ℕ) → (stepRefusal f size j t b ≡ 0 → ⊥) → member (stepRefusal f size j t b) (1 ∷ 4 ∷ 5 ∷ 7 ∷ []) ≡ true
+unfolding stepRefusal
+refusal-one f size j t b h = one-of (eqb (slotCount t) 0) (ltb (length b) 4096) (not (eqb size 16384)) (ltb 3 j || not (f j)) h
+
+module _ (s : D.Scheduler) (t b store : List ℕ) (j : ℕ) where
+  abbrev number : ℕ
+  number = stepRefusal (openAt (s .jobs)) (length store) j t b
+
+  -- c is the call's result, u the table and v the reply buffer after it
+  abbrev Refusing : C.Called → List ℕ → List ℕ → ℕ → Type 0
+  Refusing c u v n = (member n (1 ∷ 4 ∷ 5 ∷ 7 ∷ []) ≡ true) × (n ≡ number) × (c .scheduler ≡ s) × (u ≡ t) × (v ≡ b)
+
+  abbrev Quiet : C.Called → List ℕ → List ℕ → A′.Answer → Type 0
+  Quiet c u v (A.Refused n) = Unit {0}
+  Quiet c u v (A.Discarded d) = (member d (1 ∷ 4 ∷ 5 ∷ 6 ∷ []) ≡ true) × (c .scheduler ≡ withJob s j freeJob) × (u ≡ t) × (v ≡ b)
+  Quiet c u v (A.Stale k) = (c .scheduler ≡ withJob s j freeJob) × (u ≡ t) × (v ≡ b)
+  Quiet c u v (A.Nak c′ k n) = Unit {0}
+  Quiet c u v (A.Ack m k n) = Unit {0}
+
+  abbrev shown : Bool → M.Moved → E.Ending → C.Called
+  shown f m e = cond f (steppedAs s j m e) (called s (O.Refused number))
+
+  abbrev replied : Bool → E.Ending → List ℕ
+  replied f e = cond f (replyAfter (settingsOf s .secret) (partOf j store) b e) b
+
+  refused-by : (f : Bool) (m : M.Moved) (e : E.Ending) (u : List ℕ) → eqb number 0 ≡ f
+      → WhenRefused (Refusing (shown f m e) (cond f u t) (replied f e)) (shown f m e .outcome)
+  refused-by true m K.Going u h = tt
+  refused-by true m (K.Done a) u h = tt
+  refused-by false m e u h = (refusal-one (openAt (s .jobs)) (length store) j t b (eqb-false _ _ h), refl, refl, refl, refl)
+
+  freed : (m : M.Moved) → m .job ≡ freeJob → withJob s j (m .job) ≡ withJob s j freeJob
+  freed m h = ap (withJob s j) h
+
+  quiet-by : (f : Bool) (m : M.Moved) (e : E.Ending) (u : List ℕ) → QuitAs (m .job) t u e
+      → WhenDone (Quiet (shown f m e) (cond f u t) (replied f e)) (shown f m e .outcome)
+  quiet-by true m K.Going u h = tt
+  quiet-by true m (K.Done (A.Refused n)) u h = tt
+  quiet-by true m (K.Done (A.Discarded d)) u h = (h .0, freed m (h .1), h .2, refl)
+  quiet-by true m (K.Done (A.Stale k)) u h = (freed m (h .0), h .1, refl)
+  quiet-by true m (K.Done (A.Nak c k n)) u h = tt
+  quiet-by true m (K.Done (A.Ack i k n)) u h = tt
+  quiet-by false m e u h = tt
+
+  abbrev ending : E.Ending
+  ending = movedOf s j t store .ending
+
+  abbrev after : List ℕ
+  after = movedTable (settingsOf s) (jobAt (s .jobs) j) (partOf j store) t
+
+  step-refused : WhenRefused (Refusing (stepCalled s j t b store) (stepTable s j t b store) (stepReply s j t b store)) (stepCalled s j t b store .outcome)
+  unfolding stepCalled stepTable stepReply
+  step-refused = refused-by (eqb number 0) (movedOf s j t store) ending after refl
+
+  step-quiet : WhenDone (Quiet (stepCalled s j t b store) (stepTable s j t b store) (stepReply s j t b store)) (stepCalled s j t b store .outcome)
+  unfolding stepCalled stepTable stepReply
+  step-quiet = quiet-by (eqb number 0) (movedOf s j t store) ending after (move-quits (settingsOf s) (jobAt (s .jobs) j) (partOf j store) t)
+
+  pub step-refusals : (n : ℕ) → stepCalled s j t b store .outcome ≡ O.Refused n → Refusing (stepCalled s j t b store) (stepTable s j t b store) (stepReply s j t b store) n
+  step-refusals n e = subst (WhenRefused (Refusing (stepCalled s j t b store) (stepTable s j t b store) (stepReply s j t b store))) e step-refused
+
+  pub step-answers : (a : A′.Answer) → stepCalled s j t b store .outcome ≡ O.Done a → Quiet (stepCalled s j t b store) (stepTable s j t b store) (stepReply s j t b store) a
+  step-answers a e = subst (WhenDone (Quiet (stepCalled s j t b store) (stepTable s j t b store) (stepReply s j t b store))) e step-quiet
