@@ -1,3 +1,4 @@
 pub mod Job
 pub mod Reread
 pub mod Moves
+pub mod Again

@@ -1,0 +1,87 @@
+-- Check: each arm of the verdict is its part of the definition. A verdict that is a NAK comes from a rightly signed request, so its reply fits.
+-- Assumes nothing.
+use mathlib.Core.Path.{_≡_, refl, sym, ap, _∙_}
+use mathlib.Core.Bool.{Bool, true, false, false≢true}
+use mathlib.Core.List.{List}
+use Prim.Native.Nat.{ℕ, _≤_}
+use lib.IntN.{ℤ}
+use Rattle.octets.specs.Runs.{part, write, equalBytes}
+use Rattle.md5.specs.declared.State.{State}
+use Rattle.md5.specs.Md5.{output}
+use Rattle.md5.proofs.After.{length-output}
+use Rattle.signing.proofs.Pieces.{compared}
+use Rattle.causes.specs.declared.Cause.{Cause}
+use Rattle.rules.specs.declared.Verdict as R
+use Rattle.rules.specs.declared.Verdict.the-variants as J
+use Rattle.rules.specs.Packet.{authOf}
+use Rattle.rules.specs.Settings.{Settings}
+use Rattle.rules.specs.Discards.{Sized}
+use Rattle.rules.specs.Verdict.{checkVerdict}
+use Rattle.reply.specs.Reply.{replyLength, replyOf}
+use Rattle.answers.specs.declared.Answer as D
+use Rattle.answers.specs.declared.Answer.the-variants as A
+use Rattle.handler.proofs.Fresh.{answered, nak-short}
+use Rattle.jobs.specs.declared.Job.{Job}
+use Rattle.jobs.specs.declared.Moved.{Moved}
+use Rattle.jobs.specs.Job.{stateOf}
+use Rattle.jobs.specs.Reread.{holds}
+use Rattle.jobs.specs.Moves.{going, done, wordsSigned, checkedAs, checkMove, replyAfter}
+
+-- ---- D4
+
+pub words-signed : (w q d : List ℕ) (s : State) (r : Bool) → s ≡ stateOf w → d ≡ output s → r ≡ equalBytes (part 4 16 q) (part 0 16 d) → r ≡ equalBytes (authOf q) (output (stateOf w))
+words-signed w q d s r i h e = compared (part 4 16 q) d (output (stateOf w)) r e (h ∙ ap output i) (length-output (stateOf w))
+
+-- ---- the arms
+
+module _ (j : Job) (q : List ℕ) (v : R.Verdict) (r : Moved) where
+  pub arm-discarded : (d : ℕ) → v ≡ J.Discarded d → r ≡ done (A.Discarded d) → r ≡ checkedAs j q v
+  arm-discarded d e h = h ∙ rw e
+
+  pub arm-stale : (k k′ : ℤ) → v ≡ J.Stale k → k′ ≡ k → r ≡ done (A.Stale k′) → r ≡ checkedAs j q v
+  arm-stale k k′ e g h = h ∙ rw (e, g)
+
+  pub arm-nak : (c : Cause) (k k′ : ℤ) (a : D.Answer) → v ≡ J.Nak c k → k′ ≡ k → a ≡ A.Nak c k′ (replyLength q c) → r ≡ done a → r ≡ checkedAs j q v
+  arm-nak c k k′ a e g i h = h ∙ rw (i, e, g)
+
+module _ (secret q b : List ℕ) (r : Moved) where
+  pub discarded-reply : (d : ℕ) → r ≡ done (A.Discarded d) → b ≡ replyAfter secret q b (r .ending)
+  discarded-reply d e = rw e
+
+  pub stale-reply : (k : ℤ) → r ≡ done (A.Stale k) → b ≡ replyAfter secret q b (r .ending)
+  stale-reply k e = rw e
+
+  pub going-reply : (j : Job) → r ≡ going j → b ≡ replyAfter secret q b (r .ending)
+  going-reply j e = rw e
+
+  pub nak-reply : (u : List ℕ) (a : D.Answer) (c : Cause) (k : ℤ) (n : ℕ) → r ≡ done a → a ≡ A.Nak c k n → u ≡ write b 0 (replyOf secret q c) → u ≡ replyAfter secret q b (r .ending)
+  nak-reply u a c k n e i h = rw (e, i) h
+
+-- ---- the reply to a NAK
+
+nak-signed : (g : Settings) (q : List ℕ) (clock n : ℕ) (b : Bool) (c : Cause) (k : ℤ) → Sized q n → checkVerdict g b q clock ≡ J.Nak c k → replyLength q c ≤ 4096
+unfolding checkVerdict
+nak-signed g q clock n true c k z e = nak-short g q clock (checkVerdict g true q clock) refl n c c k e z
+nak-signed g q clock n false c k z e = absurd (false≢true (ap answered e))
+
+pub nak-fits : (g : Settings) (q : List ℕ) (clock n : ℕ) (b : Bool) (v : R.Verdict) → v ≡ checkVerdict g b q clock → Sized q n → (c : Cause) (k : ℤ) → v ≡ J.Nak c k → replyLength q c ≤ 4096
+nak-fits g q clock n b v is z c k e = nak-signed g q clock n b c k z (sym is ∙ e)
+
+pub nak-here : (q : List ℕ) (v : R.Verdict) (c : Cause) (k : ℤ) → ((d : Cause) (i : ℤ) → v ≡ J.Nak d i → replyLength q d ≤ 4096) → v ≡ J.Nak c k → replyLength q c ≤ 4096
+nak-here q v c k h e = h c k e
+
+-- ---- the whole
+
+module _ (g : Settings) (j : Job) (q : List ℕ) (r : Moved) where
+  pub check-verdict : (b : Bool) (v : R.Verdict) → b ≡ equalBytes (authOf q) (output (stateOf (j .words))) → v ≡ checkVerdict g b q (j .clock) → r ≡ checkedAs j q v → r ≡ checkedAs j q (checkVerdict g (wordsSigned j q) q (j .clock))
+  unfolding wordsSigned
+  check-verdict b v i h e = rw (← i, ← h) e
+
+  module _ (b : Bool) (is : b ≡ holds (j .length) q) where
+    pub check-held : b ≡ true → r ≡ checkedAs j q (checkVerdict g (wordsSigned j q) q (j .clock)) → r ≡ checkMove g j q
+    unfolding checkMove
+    check-held h e = e ∙ rw (← is, h)
+
+    pub check-gone : b ≡ false → r ≡ done (A.Discarded 1) → r ≡ checkMove g j q
+    unfolding checkMove
+    check-gone h e = e ∙ rw (← is, h)

@@ -1,0 +1,21 @@
+-- `Job::check` meets its contract: the store is read again first.
+-- Assumes nothing.
+use borrow.Author.Needs.{needs}
+use Rattle.jobs.proofs.Retold.{held-form, held-sized}
+use Rattle.jobs.proofs.Checked.{check-held, check-gone, discarded-reply}
+use Rattle.jobs.proofs.Job.check.Statement.{statement}
+use Rattle.jobs.proofs.Job.check.Tie as tie
+
+checked-requires : tie.Need-checked-requires
+checked-requires c κs = (search (needs, held-sized), search (needs, held-form), search needs)
+
+returns : tie.Need-returns
+returns c = (search (needs, check-held), search needs)
+
+returns-2 : tie.Need-returns-2
+returns-2 c = (search (needs, check-gone), search (needs, discarded-reply))
+
+pub check-spec : {M : Type 1} → statement M
+check-spec =
+    tie.close
+    (tie.spec (λ c κs. search needs) checked-requires (λ c. search needs) returns (λ c κs. search needs) returns-2)

@@ -1,0 +1,86 @@
+-- The re-reading in its order: D1 to D3 and Length, the stamp, type 80 and the causes. What passes them all stands as Match and Commit ask.
+-- Assumes nothing.
+use mathlib.Core.Path.{_≡_, refl, sym, _∙_}
+use mathlib.Core.Bool.{Bool, true, false, not, _&&_, false≢true}
+use mathlib.Core.List.{List}
+use Prim.Native.Nat.{ℕ}
+use borrow.Author.Tests.{eq-eqb, eqb-true}
+use lib.Dec.{eqb}
+use Rattle.attributes.specs.Attributes.{attributes, any}
+use Rattle.survey.specs.declared.Flags.{Flags}
+use Rattle.survey.specs.Survey.{Surveyed}
+use Rattle.stamps.specs.declared.Stamp.{Stamp}
+use Rattle.stamps.specs.declared.Stamp.the-variants.{Usable, Unusable}
+use Rattle.stamps.specs.Stamp.{stampOf}
+use Rattle.causes.specs.declared.Cause.the-variants.{NoCause}
+use Rattle.causes.specs.Causes.{causeOf}
+use Rattle.causes.proofs.Passed.{repeated, misfit}
+use Rattle.rules.specs.Packet.{codeOf, lengthOf, areaOf}
+use Rattle.rules.specs.Settings.{settings}
+use Rattle.rules.specs.Discards.{formOf, Sized}
+use Rattle.rules.specs.Verdict.{applies}
+use Rattle.rules.proofs.Forms.{good-sized, form-good}
+use Rattle.jobs.specs.Reread.{holds, oddMac, holdsPassed}
+use Rattle.jobs.specs.Again.{Stands}
+use Rattle.jobs.proofs.Rereading.{none-applies}
+
+both : (a b : Bool) → (a && b) ≡ true → (a ≡ true) × (b ≡ true)
+both true b h = (refl, h)
+both false b h = absurd (false≢true h)
+
+not-true : (b : Bool) → not b ≡ true → b ≡ false
+not-true true h = absurd (false≢true h)
+not-true false h = refl
+
+-- ---- D1 to D3 and Length
+
+module _ (n : ℕ) (q : List ℕ) (b : Bool) (is : b ≡ holds n q) (h : b ≡ true) where
+  tests : (eqb (formOf q) 0 ≡ true) × (eqb (lengthOf q) n ≡ true)
+  unfolding holds
+  tests = both _ _ (sym is ∙ h)
+
+  pub held-form : formOf q ≡ 0
+  held-form = eqb-true _ _ (tests .0)
+
+  pub held-sized : Sized q n
+  held-sized = good-sized q n (form-good q held-form) (sym (eqb-true _ _ (tests .1)))
+
+pub gone-passed : (secret name q : List ℕ) (address n : ℕ) (b : Bool) → b ≡ holds n q → b ≡ false → holdsPassed (settings secret address name) n q ≡ false
+unfolding holdsPassed
+gone-passed secret name q address n b is h = rw (← is, h)
+
+-- ---- the rest
+
+module _ (name s q : List ℕ) (address n : ℕ) (f : Flags) (count ends sizes : List ℕ) (sized : Sized q n) (form : formOf q ≡ 0) (area : s ≡ areaOf q) (x : Stamp) (stamp : x ≡ stampOf s) where
+  held : holds n q ≡ true
+  unfolding holds
+  held = rw (form, eq-eqb _ _ (sym (sized .is)))
+
+  pub gone-stamp : (secret : List ℕ) → x ≡ Unusable → holdsPassed (settings secret address name) n q ≡ false
+  unfolding holdsPassed
+  gone-stamp secret h = rw (held, ← area, ← stamp, h)
+
+  module _ (v : ℕ) (usable : x ≡ Usable v) (b : Bool) (is : b ≡ (not (any oddMac (attributes s)) && not (applies (causeOf (codeOf q) address name s)))) where
+    pub passed-by : (secret : List ℕ) → holdsPassed (settings secret address name) n q ≡ b
+    unfolding holdsPassed
+    passed-by secret = rw (held, ← area, ← stamp, usable, ← is)
+
+    pub gone-objected : (secret : List ℕ) → b ≡ false → holdsPassed (settings secret address name) n q ≡ false
+    gone-objected secret h = passed-by secret ∙ h
+
+    pub held-passed : (secret : List ℕ) → b ≡ true → holdsPassed (settings secret address name) n q ≡ true
+    held-passed secret h = passed-by secret ∙ h
+
+    pub held-stands : Surveyed s (codeOf q) f count ends sizes → b ≡ true → Stands n q v f count ends sizes
+    held-stands i h =
+        let two = both _ _ (sym is ∙ h) in
+        let none : causeOf (codeOf q) address name s ≡ NoCause = none-applies _ (not-true _ (two .1)) in
+        record {
+          sized = sized;
+          form = form;
+          surveyed = rw (← area) i;
+          stamp = rw (← area) (sym stamp ∙ usable);
+          plain = rw (← area) (not-true _ (two .0));
+          fits = rw (← area) (misfit (codeOf q) address name s none);
+          once = rw (← area) (repeated (codeOf q) address name s none);
+        }

@@ -1,0 +1,109 @@
+-- One step, by the stage; and what a step leaves is again a job of ours: a block still to hash is one of the message.
+-- Assumes nothing.
+use mathlib.Core.Path.{_≡_, refl, ap, _∙_}
+use mathlib.Core.Bool.{Bool, true, false, cond}
+use mathlib.Core.List.{List}
+use Prim.Native.Nat.{ℕ, _+_, _≤_, _<_}
+use borrow.Author.Tests.{ltb-true}
+use lib.Dec.{ltb}
+use lib.ListN.{length}
+use Rattle.signing.specs.Block.{blockCount}
+use Rattle.slots.specs.Slot.{slotCount}
+use Rattle.rules.specs.declared.Verdict as R
+use Rattle.rules.specs.declared.Verdict.the-variants as J
+use Rattle.rules.specs.Settings.{Settings}
+use Rattle.rules.specs.Verdict.{checkVerdict}
+use Rattle.jobs.specs.declared.Job.{Job}
+use Rattle.jobs.specs.declared.Stage.the-variants.{Free, Hash, Check, Match}
+use Rattle.jobs.specs.declared.Moved.{Moved}
+use Rattle.jobs.specs.Job.{Placed, JobOurs}
+use Rattle.jobs.specs.Reread.{holds, holdsPassed}
+use Rattle.jobs.specs.Moves.{going, hashJob, wordsSigned, checkedAs, checkMove, matchJob, commitMove, slotMove, slotTable, moved, movedTable}
+
+-- ---- by the stage
+
+module _ (g : Settings) (j : Job) (q t : List ℕ) (r : Moved) where
+  pub step-free : j .stage ≡ Free → r ≡ going j → r ≡ moved g j q t
+  unfolding moved
+  step-free h e = e ∙ rw h
+
+  pub step-hash : (k : ℕ) (i : Job) → j .stage ≡ Hash k → i ≡ hashJob (g .secret) j k q → r ≡ going i → r ≡ moved g j q t
+  unfolding moved
+  step-hash k i h p e = e ∙ ap going p ∙ rw h
+
+  pub step-check : j .stage ≡ Check → r ≡ checkMove g j q → r ≡ moved g j q t
+  unfolding moved
+  step-check h e = e ∙ rw h
+
+  pub step-slot : (k : ℕ) → j .stage ≡ Match k → r ≡ slotMove g j k q t → r ≡ moved g j q t
+  unfolding moved
+  step-slot k h e = e ∙ rw h
+
+module _ (g : Settings) (j : Job) (q t : List ℕ) where
+  pub table-free : j .stage ≡ Free → t ≡ movedTable g j q t
+  unfolding movedTable
+  table-free h = rw h
+
+  pub table-hash : (k : ℕ) → j .stage ≡ Hash k → t ≡ movedTable g j q t
+  unfolding movedTable
+  table-hash k h = rw h
+
+  pub table-check : j .stage ≡ Check → t ≡ movedTable g j q t
+  unfolding movedTable
+  table-check h = rw h
+
+  pub table-slot : (k : ℕ) (u : List ℕ) → j .stage ≡ Match k → u ≡ slotTable g j k q t → u ≡ movedTable g j q t
+  unfolding movedTable
+  table-slot k u h e = e ∙ rw h
+
+-- ---- a job of ours
+
+module _ (secret : List ℕ) (k : ℕ) (j : Job) (ours : JobOurs (length secret) j) (h : j .stage ≡ Hash k) where
+  there : (20 ≤ j .length) × (j .length ≤ 4096) × (k < blockCount (j .length + length secret))
+  there = rw h at ours
+
+  pub ours-low : 20 ≤ j .length
+  ours-low = there .0
+
+  pub ours-high : j .length ≤ 4096
+  ours-high = there .1
+
+  pub ours-given : (q : List ℕ) → length q ≡ 4096 → j .length ≤ length q
+  ours-given q e = rw e ours-high
+
+  pub ours-block : k < blockCount (j .length + length secret)
+  ours-block = there .2
+
+  next : (b : Bool) → ltb (k + 1) (blockCount (j .length + length secret)) ≡ b → Placed (length secret) (cond b (Hash (k + 1)) Check) (j .length)
+  next true e = (ours-low, ours-high, ltb-true _ _ e)
+  next false e = tt
+
+  pub ours-hash : (q : List ℕ) (i : Job) (r : Moved) → i ≡ hashJob secret j k q → r ≡ going i → JobOurs (length secret) (r .job)
+  unfolding hashJob
+  ours-hash q i r p e = rw (e, p) (next (ltb (k + 1) (blockCount (j .length + length secret))) refl)
+
+pub ours-free : (s : ℕ) (j : Job) (r : Moved) → JobOurs s j → r ≡ going j → JobOurs s (r .job)
+ours-free s j r h e = rw e h
+
+checked-ours : (s : ℕ) (j : Job) (q : List ℕ) (v : R.Verdict) → JobOurs s (checkedAs j q v .job)
+checked-ours s j q (J.Discarded d) = tt
+checked-ours s j q (J.Stale k) = tt
+checked-ours s j q (J.Nak c k) = tt
+checked-ours s j q (J.Passed k) = tt
+
+check-ours : (s : ℕ) (g : Settings) (j : Job) (q : List ℕ) (b : Bool) → holds (j .length) q ≡ b → JobOurs s (checkMove g j q .job)
+unfolding checkMove
+check-ours s g j q true e = rw e (checked-ours s j q (checkVerdict g (wordsSigned j q) q (j .clock)))
+check-ours s g j q false e = rw e tt
+
+pub ours-check : (s : ℕ) (g : Settings) (j : Job) (q : List ℕ) (r : Moved) → r ≡ checkMove g j q → JobOurs s (r .job)
+ours-check s g j q r e = rw e (check-ours s g j q (holds (j .length) q) refl)
+
+slot-ours : (s k : ℕ) (g : Settings) (j : Job) (q t : List ℕ) (a b : Bool) → holdsPassed g (j .length) q ≡ a → ltb k (slotCount t) ≡ b → JobOurs s (slotMove g j k q t .job)
+unfolding slotMove matchJob commitMove
+slot-ours s k g j q t true true e h = rw (e, h) tt
+slot-ours s k g j q t true false e h = rw (e, h) tt
+slot-ours s k g j q t false b e h = rw e tt
+
+pub ours-slot : (s k : ℕ) (g : Settings) (j : Job) (q t : List ℕ) (r : Moved) → r ≡ slotMove g j k q t → JobOurs s (r .job)
+ours-slot s k g j q t r e = rw e (slot-ours s k g j q t (holdsPassed g (j .length) q) (ltb k (slotCount t)) refl refl)

@@ -1,0 +1,13 @@
+-- `jobs::first` meets its contract: the words before the first block, and no marks.
+-- Assumes nothing.
+use borrow.Author.Needs.{needs}
+use Rattle.slots.specs.Marks.{noMarks}
+use Rattle.jobs.proofs.first.Statement.{statement}
+use Rattle.jobs.proofs.first.Tie as tie
+
+returns : tie.Need-returns
+unfolding noMarks
+returns c = rw (c .words-of .ensures, c .before .initial .ensures)
+
+pub first-spec : {M : Type 1} → statement M
+first-spec = tie.close (tie.spec (λ c κs. search needs) (λ c κs. search needs) returns)

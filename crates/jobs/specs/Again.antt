@@ -1,0 +1,32 @@
+-- What Match and Commit count on where the store, read again, still shows the request; v is its stamp.
+-- Assumes nothing.
+use mathlib.Core.Path.{_≡_}
+use mathlib.Core.Bool.{true, false}
+use mathlib.Core.List.{List}
+use Prim.Native.Nat.{ℕ}
+use Rattle.attributes.specs.Attributes.{attributes, any, found}
+use Rattle.survey.specs.declared.Flags.{Flags}
+use Rattle.survey.specs.Types.{misfitting, firstRepeated, none}
+use Rattle.survey.specs.Survey.{Surveyed}
+use Rattle.stamps.specs.declared.Stamp.the-variants.{Usable}
+use Rattle.stamps.specs.Stamp.{stampOf}
+use Rattle.rules.specs.Packet.{codeOf, areaOf}
+use Rattle.rules.specs.Settings.{settings}
+use Rattle.rules.specs.Discards.{formOf, Sized}
+use Rattle.jobs.specs.declared.reread.Again as D
+use Rattle.jobs.specs.declared.reread.Again.the-variants.{Gone, Held}
+use Rattle.jobs.specs.Reread.{oddMac, holdsPassed}
+
+pub record Stands (n : ℕ) (q : List ℕ) (v : ℕ) (f : Flags) (count ends sizes : List ℕ) : Type 0 where
+  pub sized : Sized q n
+  pub form : formOf q ≡ 0
+  pub surveyed : Surveyed (areaOf q) (codeOf q) f count ends sizes
+  pub stamp : stampOf (areaOf q) ≡ Usable v
+  pub plain : any oddMac (attributes (areaOf q)) ≡ false
+  pub fits : any misfitting (attributes (areaOf q)) ≡ false
+  pub once : found (firstRepeated none (attributes (areaOf q))) ≡ false
+
+-- what the re-reading tells; the secret plays no part
+abbrev pub Told : ℕ → List ℕ → ℕ → List ℕ → List ℕ → List ℕ → List ℕ → D.Again → Type 0
+Told address name n q count ends sizes Gone = (secret : List ℕ) → holdsPassed (settings secret address name) n q ≡ false
+Told address name n q count ends sizes (Held f v) = ((secret : List ℕ) → holdsPassed (settings secret address name) n q ≡ true) × Stands n q v f count ends sizes
