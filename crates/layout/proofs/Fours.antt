@@ -1,9 +1,9 @@
 -- Arrays of four jobs, element by element: four elements are the whole list.
 -- Assumes nothing.
 use mathlib.Core.List.{List, [], _∷_, map}
-use mathlib.Core.Path.{_≡_, refl}
+use mathlib.Core.Path.{_≡_, refl, sym, _∙_}
 use Prim.Native.Nat.{ℕ}
-use lib.ListN.{length, getD}
+use lib.ListN.{length, getD, length-map}
 use native.Mathlib.Omega.{arith}
 use Rattle.jobs.specs.declared.Job as B
 use Rattle.jobs.specs.declared.Stage as S
@@ -35,3 +35,7 @@ module _ {A B : Type 0} (f : A → B) (d : A) where
 
   pub four-mapped : (l : List A) → length l ≡ 4 → (x y z w : B) → x ≡ f (getD l 0 d) → y ≡ f (getD l 1 d) → z ≡ f (getD l 2 d) → w ≡ f (getD l 3 d) → _≡_ {A = List B} (x ∷ y ∷ z ∷ w ∷ []) (map f l)
   four-mapped l e x y z w p q r s = rw (p, q, r, s) (mapped l e)
+
+-- an array's length, as a function is told of it
+pub same-long : {A B : Type 0} (f : A → B) (l : List A) (n : ℕ) → length (map f l) ≡ n → length l ≡ n
+same-long f l n e = sym (length-map l f) ∙ e

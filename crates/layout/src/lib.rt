@@ -32,9 +32,8 @@ pub fn scheduler_in(c: CScheduler) -> scheduler::Scheduler
     ensures { λ r. ⌜ r ≡ schedulerIn c ⌝ }
     ensures { λ r. ⌜ Ours r ⌝ }
 {
-    let n = c.secret_size;
-    let m = c.name_size;
-    let size = reading::between(1, 64, n);
+    let size = reading::between(1, 64, c.secret_size);
+    let label = reading::between(1, 32, c.name_size);
     let a0 = c.jobs[0];
     let a1 = c.jobs[1];
     let a2 = c.jobs[2];
@@ -52,7 +51,7 @@ pub fn scheduler_in(c: CScheduler) -> scheduler::Scheduler
         secret_size: size,
         address: c.address,
         name: name,
-        name_size: reading::between(1, 32, m),
+        name_size: label,
     }
 }
 

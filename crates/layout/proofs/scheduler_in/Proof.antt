@@ -1,67 +1,48 @@
+-- `layout::scheduler_in` meets its contract: an array's length comes from its type, the jobs are read one by one, and what is read is ours.
+-- Assumes nothing.
+use mathlib.Core.Path.{_≡_}
+use lib.ListN.{length}
 use borrow.Author.Needs.{needs}
+use Rattle.layout.proofs.Fours.{same-long}
+use Rattle.layout.proofs.Kept.{size-fits}
+use Rattle.layout.proofs.Whole.{read-whole, read-well}
 use Rattle.layout.proofs.scheduler_in.Statement.{statement}
 use Rattle.layout.proofs.scheduler_in.Tie as tie
-use Rattle.layout.proofs.scheduler_in.Reads as reads
-use Rattle.layout.proofs.scheduler_in.Lts as lts
-use Rattle.layout.proofs.reading.between.Reads as between-reads
-use Rattle.layout.proofs.reading.job_in.Reads as job-in-reads
 
--- src/lib.rt:37:9
-between-requires : tie.Need-between-requires
-between-requires c κs = search needs
+four : (c : tie.Start) → length (c .args .t1 .jobs) ≡ 4
+four c = same-long _ (c .args .t1 .jobs) 4 (c .good .0 .1 .1 .0 .1 .0 .1)
 
--- src/lib.rt:38:14
-element-copy-out-a0 : tie.Need-element-copy-out-a0
-element-copy-out-a0 c = search needs
+secret : (c : tie.Start) → length (c .args .t1 .secret) ≡ 64
+secret c = same-long _ (c .args .t1 .secret) 64 (c .good .0 .1 .1 .1 .0 .1 .0 .1)
 
--- src/lib.rt:39:14
-element-copy-out-a1 : tie.Need-element-copy-out-a1
-element-copy-out-a1 c = search needs
+name : (c : tie.Start) → length (c .args .t1 .name) ≡ 32
+name c = same-long _ (c .args .t1 .name) 32 (c .good .0 .1 .1 .1 .1 .0 .1 .0 .1)
 
--- src/lib.rt:40:14
-element-copy-out-a2 : tie.Need-element-copy-out-a2
-element-copy-out-a2 c = search needs
-
--- src/lib.rt:41:14
-element-copy-out-a3 : tie.Need-element-copy-out-a3
-element-copy-out-a3 c = search needs
-
--- src/lib.rt:42:9
-job-in-requires : tie.Need-job-in-requires
-job-in-requires c κs = search needs
-
--- src/lib.rt:43:9
-job-in-requires-2 : tie.Need-job-in-requires-2
-job-in-requires-2 c κs = search needs
-
--- src/lib.rt:44:9
-job-in-requires-3 : tie.Need-job-in-requires-3
-job-in-requires-3 c κs = search needs
-
--- src/lib.rt:45:9
-job-in-requires-4 : tie.Need-job-in-requires-4
-job-in-requires-4 c κs = search needs
-
--- src/lib.rt:55:20
-between-requires-2 : tie.Need-between-requires-2
-between-requires-2 c κs = search needs
-
--- src/lib.rt:31:1
 returns : tie.Need-returns
-returns c = search needs
+returns c =
+    let w = c .before .before in
+    let z = w .before in
+    let y = z .before in
+    let x = y .before in
+    let label = x .before .before .before .before .before in
+    let size = label .before in
+    let s = size .before in (
+      read-whole (s .args .t1) (four s) _ _ (size .between .ensures) (label .between2 .ensures) _ _ _ _ (x .job-in .ensures) (y .job-in2 .ensures) (z .job-in3 .ensures) (w .job-in4 .ensures),
+      read-well (s .args .t1) (four s) _ _ (size .between .ensures) (label .between2 .ensures) _ _ _ _ (x .job-in .ensures) (y .job-in2 .ensures) (z .job-in3 .ensures) (w .job-in4 .ensures) (secret s) (name s),
+    )
 
 pub scheduler-in-spec : {M : Type 1} → statement M
 scheduler-in-spec =
     tie.close
     (tie.spec
-    between-requires
-    element-copy-out-a0
-    element-copy-out-a1
-    element-copy-out-a2
-    element-copy-out-a3
-    job-in-requires
-    job-in-requires-2
-    job-in-requires-3
-    job-in-requires-4
-    between-requires-2
+    (λ c κs. search needs)
+    (λ c κs. search needs)
+    (λ c. search needs)
+    (λ c. search needs)
+    (λ c. search needs)
+    (λ c. search needs)
+    (λ c κs. size-fits _ _ (c .before .before .before .before .before .between .ensures))
+    (λ c κs. size-fits _ _ (c .before .before .before .before .before .before .between .ensures))
+    (λ c κs. size-fits _ _ (c .before .before .before .before .before .before .before .between .ensures))
+    (λ c κs. size-fits _ _ (c .before .before .before .before .before .before .before .before .between .ensures))
     returns)
