@@ -1,7 +1,6 @@
 -- What C keeps is the scheduler: reading back what was written changes nothing of a scheduler of ours, since its lengths are inside their limits and
 -- the block that a job is to hash is one of its message.
 -- Assumes nothing.
-use mathlib.Core.Bool.{_&&_}
 use mathlib.Core.List.{List, [], _∷_, map}
 use mathlib.Core.Path.{_≡_, refl, sym, ap, _∙_}
 use Prim.Native.Nat.{ℕ, zero, suc, _+_}
@@ -13,7 +12,7 @@ use Rattle.jobs.specs.declared.Stage.the-variants.{Free, Hash, Check, Match}
 use Rattle.jobs.specs.Job.{Placed, JobOurs}
 use Rattle.scheduler.specs.declared.Scheduler as D
 use Rattle.scheduler.specs.Scheduler.{Ours, jobAt}
-use Rattle.layout.specs.Layout.{kindOf, placeOf, jobOut, schedulerOut, between, blockIn, stageIn, jobIn, schedulerIn}
+use Rattle.layout.specs.Layout.{kindOf, placeOf, jobOut, schedulerOut, blockIn, stageIn, jobIn, schedulerIn}
 use Rattle.layout.proofs.Ranges.{inside}
 
 module _ (size : ℕ) where

@@ -1,6 +1,6 @@
 -- The scheduler field by field: four jobs converted one by one are the list converted, and the other fields are copied or brought inside.
 -- Assumes nothing.
-use mathlib.Core.List.{[], _∷_, map}
+use mathlib.Core.List.{[], _∷_}
 use mathlib.Core.Path.{_≡_, sym, subst}
 use Prim.Native.Nat.{ℕ}
 use lib.ListN.{length, getD}
