@@ -30,6 +30,7 @@ fn block_in(size: usize, n: usize, place: usize) -> bool
     place < signing::block_count(n + size)
 }
 
+// The stage of a kind and a place.
 fn stage_in(size: usize, kind: u32, place: usize, n: usize) -> jobs::Stage
     requires { ⌜ size ≤ 64 ⌝ }
     ensures { λ r. ⌜ r ≡ stageIn size kind place n ⌝ }
@@ -49,6 +50,7 @@ fn stage_in(size: usize, kind: u32, place: usize, n: usize) -> jobs::Stage
     jobs::Stage::Free
 }
 
+// The job, under a secret of so many bytes.
 pub fn job_in(size: usize, j: super::CJob) -> jobs::Job
     requires { ⌜ size ≤ 64 ⌝ }
     ensures { λ r. ⌜ r ≡ jobIn size j ⌝ }

@@ -2,6 +2,7 @@
 ghost use mathlib.Core.Path.{_≡_};
 ghost use Rattle.layout.specs.Layout.{kindOf, placeOf, jobOut};
 
+// The number of a stage.
 fn kind_of(s: jobs::Stage) -> u32
     ensures { λ r. ⌜ r ≡ kindOf s ⌝ }
 {
@@ -13,6 +14,7 @@ fn kind_of(s: jobs::Stage) -> u32
     }
 }
 
+// The block or the slot that a stage is at, 0 where it has none.
 fn place_of(s: jobs::Stage) -> usize
     ensures { λ r. ⌜ r ≡ placeOf s ⌝ }
 {
@@ -24,6 +26,7 @@ fn place_of(s: jobs::Stage) -> usize
     }
 }
 
+// The job, its stage as two numbers.
 pub fn job_out(j: jobs::Job) -> super::CJob
     ensures { λ r. ⌜ r ≡ jobOut j ⌝ }
 {
