@@ -1,0 +1,5 @@
+pub mod Ranges
+pub mod Fours
+pub mod Kept
+pub mod Back
+pub mod Whole

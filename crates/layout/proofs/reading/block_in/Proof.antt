@@ -1,0 +1,16 @@
+-- `layout::reading::block_in` meets its contract: a test a return; the sum fits, since the secret has at most 64 bytes.
+-- Assumes nothing.
+use borrow.Author.Needs.{needs}
+use Rattle.layout.proofs.Ranges.{short-none, long-none, counted}
+use Rattle.layout.proofs.reading.block_in.Statement.{statement}
+use Rattle.layout.proofs.reading.block_in.Tie as tie
+
+pub block-in-spec : {M : Type 1} → statement M
+block-in-spec =
+    tie.close
+    (tie.spec
+    (λ c. search (needs, short-none))
+    (λ c. search (needs, long-none))
+    (λ c. search needs)
+    (λ c κs. search needs)
+    (λ c. search (needs, counted)))
