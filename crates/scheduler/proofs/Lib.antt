@@ -1,0 +1,11 @@
+pub mod Four
+pub mod Kept
+pub mod Dropping
+pub mod Founding
+pub mod Tables
+pub mod Admitting
+pub mod New
+pub mod Finishing
+pub mod Refusing
+pub mod Moving
+pub mod Steps

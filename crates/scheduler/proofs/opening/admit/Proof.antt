@@ -1,0 +1,28 @@
+-- `scheduler::opening::admit` meets its contract: a part of the store has room for Length bytes.
+-- Assumes nothing.
+use borrow.Author.Needs.{needs}
+use Rattle.scheduler.proofs.Admitting.{cut, room, opened-as}
+use Rattle.scheduler.proofs.opening.admit.Statement.{statement}
+use Rattle.scheduler.proofs.opening.admit.Tie as tie
+
+slice-aggregate-copy : tie.Need-slice-aggregate-copy
+slice-aggregate-copy c = search (needs, cut)
+
+copy-requires : tie.Need-copy-requires
+copy-requires c κs = search (needs, room)
+
+returns : tie.Need-returns
+returns c = (search (needs, opened-as), search needs)
+
+pub admit-spec : {M : Type 1} → statement M
+admit-spec =
+    tie.close
+    (tie.spec
+    (λ c. search needs)
+    slice-aggregate-copy
+    copy-requires
+    (λ c κs. search needs)
+    (λ c. search needs)
+    (λ c. search needs)
+    (λ c. search needs)
+    returns)

@@ -1,0 +1,32 @@
+-- `scheduler::opening::open` meets its contract: R5, R6 and D1 to D3 stand in their order.
+-- Assumes nothing.
+use borrow.Author.Needs.{needs}
+use Rattle.scheduler.proofs.Admitting.{open-short, short-store, open-full, full-store, open-discarded, discarded-store, open-admitted, admitted-store, admitted-ours}
+use Rattle.scheduler.proofs.opening.open.Statement.{statement}
+use Rattle.scheduler.proofs.opening.open.Tie as tie
+
+returns : tie.Need-returns
+returns c = (search (needs, open-short), (search (needs, short-store), search needs))
+
+returns-2 : tie.Need-returns-2
+returns-2 c = (search (needs, open-full), (search (needs, full-store), search needs))
+
+returns-3 : tie.Need-returns-3
+returns-3 c = (search (needs, open-discarded), (search (needs, discarded-store), search needs))
+
+returns-4 : tie.Need-returns-4
+returns-4 c = (search (needs, open-admitted), (search (needs, admitted-store), search (needs, admitted-ours)))
+
+pub open-spec : {M : Type 1} → statement M
+open-spec =
+    tie.close
+    (tie.spec
+    returns
+    (λ c κs. search needs)
+    returns-2
+    (λ c κs. search needs)
+    returns-3
+    (λ c κs. search needs)
+    (λ c κs. search needs)
+    (λ c. search needs)
+    returns-4)

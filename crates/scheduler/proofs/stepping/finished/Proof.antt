@@ -1,0 +1,25 @@
+-- `scheduler::stepping::finished` meets its contract: an ACK restarts, the other answers leave the scheduler as it is.
+-- Assumes nothing.
+use borrow.Author.Needs.{needs}
+use Rattle.scheduler.proofs.Finishing.{after-ack}
+use Rattle.scheduler.proofs.stepping.finished.Statement.{statement}
+use Rattle.scheduler.proofs.stepping.finished.Tie as tie
+
+returns-5 : tie.Need-returns-5
+returns-5 c = search (needs, after-ack)
+
+pub finished-spec : {M : Type 1} → statement M
+finished-spec =
+    tie.close
+    (tie.spec
+    (λ c. search needs)
+    (λ c. search needs)
+    (λ c. search needs)
+    (λ c. search needs)
+    (λ c. search needs)
+    (λ c κs. search needs)
+    (λ c. search needs)
+    (λ c. search needs)
+    (λ c. search needs)
+    (λ c. search needs)
+    returns-5)

@@ -1,0 +1,25 @@
+-- `scheduler::table::end` meets its contract: the end of a session restarts the jobs, a refusal does not.
+-- Assumes nothing.
+use borrow.Author.Needs.{needs}
+use Rattle.scheduler.proofs.Tables.{end-gone, end-refused, table-ours}
+use Rattle.scheduler.proofs.table.end.Statement.{statement}
+use Rattle.scheduler.proofs.table.end.Tie as tie
+
+returns : tie.Need-returns
+returns c = (search (needs, end-gone), (search needs, search (needs, table-ours)))
+
+returns-2 : tie.Need-returns-2
+returns-2 c = (search (needs, end-refused), (search needs, search needs))
+
+pub end-spec : {M : Type 1} → statement M
+end-spec =
+    tie.close
+    (tie.spec
+    (λ c κs. search needs)
+    (λ c. search needs)
+    (λ c κs. search needs)
+    (λ c. search needs)
+    (λ c. search needs)
+    returns
+    (λ c. search needs)
+    returns-2)
