@@ -1,3 +1,5 @@
 pub mod Told
 pub mod Bounds
 pub mod Exchanged
+pub mod Reported
+pub mod Crossing

@@ -1,6 +1,8 @@
 // The library as C calls it: numbers and byte runs. Nothing is decided here.
 mod exchange; // exchange.rt: a request written, a reply checked, as numbers
 mod numbers; // numbers.rt: an answer as numbers
+mod outcome; // outcome.rt: what a call on a scheduler hands to C
+mod stepping; // stepping.rt: the scheduler
 
 ghost use mathlib.Core.Path.{_≡_};
 ghost use mathlib.Core.Bool.{not};

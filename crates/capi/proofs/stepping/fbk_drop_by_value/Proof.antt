@@ -1,0 +1,15 @@
+-- `capi::stepping::fbk_drop_by_value` meets its contract: the struct is read, the call made, the result handed back.
+-- Assumes nothing.
+use borrow.Author.Needs.{needs}
+use Rattle.capi.proofs.Crossing.{drop-told}
+use Rattle.capi.proofs.stepping.fbk_drop_by_value.Statement.{statement}
+use Rattle.capi.proofs.stepping.fbk_drop_by_value.Tie as tie
+
+pub fbk-drop-by-value-spec : {M : Type 1} → statement M
+fbk-drop-by-value-spec =
+    tie.close
+    (tie.spec
+    (λ c κs. search needs)
+    (λ c κs. search needs)
+    (λ c κs. search needs)
+    (λ c. search (needs, drop-told)))

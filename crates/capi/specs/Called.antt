@@ -1,0 +1,51 @@
+-- What a call on a scheduler hands to C: the scheduler after it, the answer's number, and the numbers beside it.
+-- Assumes nothing.
+use Prim.Native.Nat.{ℕ, _+_}
+use lib.IntN.{ℤ, pos}
+use Rattle.causes.specs.Causes.{errorCause}
+use Rattle.answers.specs.declared.Answer as A
+use Rattle.answers.specs.declared.Answer.the-variants as Y
+use Rattle.scheduler.specs.declared.Outcome as O
+use Rattle.scheduler.specs.declared.Outcome.the-variants.{Refused, Discarded, Opened, Going, Done, Dropped, Started, Ended}
+use Rattle.scheduler.specs.declared.Called as S
+use Rattle.scheduler.specs.declared.Made as M
+use Rattle.layout.specs.Layout.{schedulerOut}
+use Rattle.capi.specs.declared.outcome.Report as R
+use Rattle.capi.specs.declared.outcome.CCalled as C
+
+-- a number alone; a number and a job or slot beside it
+abbrev pub plain : ℕ → R.Report
+plain n = record { skew = pos 0; count = 0; size = 0; answer = n; stamped = 0 }
+
+abbrev pub counted : ℕ → R.Report
+counted k = record { skew = pos 0; count = k; size = 0; answer = 0; stamped = 0 }
+
+-- a request with a usable stamp: skew, sessions changed, the reply's length, the answer
+abbrev pub stampedReport : ℤ → ℕ → ℕ → ℕ → R.Report
+stampedReport skew m n answer = record { skew = skew; count = m; size = n; answer = answer; stamped = 1 }
+
+-- a finished request, by the numbers of `numberOf`
+unfoldable pub answerReport : A.Answer → R.Report
+answerReport (Y.Refused n) = plain n
+answerReport (Y.Discarded d) = plain (100 + d)
+answerReport (Y.Stale skew) = stampedReport skew 0 0 106
+answerReport (Y.Nak c skew n) = stampedReport skew 0 n (errorCause c)
+answerReport (Y.Ack m skew n) = stampedReport skew m n 0
+
+-- 0 done; the R number; 100 + n discarded by Dn at opening; what a finished request's answer is; 600 not finished
+unfoldable pub reportOf : O.Outcome → R.Report
+reportOf (Refused n) = plain n
+reportOf (Discarded d) = plain (100 + d)
+reportOf (Opened j) = counted j
+reportOf Going = plain 600
+reportOf (Done a) = answerReport a
+reportOf Dropped = plain 0
+reportOf (Started k) = counted k
+reportOf Ended = plain 0
+
+abbrev pub calledOut : S.Called → C.CCalled
+calledOut c = record { scheduler = schedulerOut (c .scheduler); report = reportOf (c .outcome) }
+
+-- a scheduler made: 0, or the R number
+abbrev pub madeOut : M.Made → C.CCalled
+madeOut m = record { scheduler = schedulerOut (m .scheduler); report = plain (m .refusal) }
