@@ -14,6 +14,8 @@ KEPT, NONE = "5 6 -8 7", "0 0 0 0"  # the four numbers: as they were, or as a di
 NULLS = [
     f"none: 104, {NONE}", f"table: 1, {KEPT}", f"secret: 2, {KEPT}", f"nas_id: 3, {KEPT}", f"reply: 4, {KEPT}", f"packet: 101, {NONE}",
     f"all but the table: 2, {KEPT}", f"all: 1, {KEPT}",
+    "write, none: 0, 40", "write, attributes: 0, 38", "write, secret: 2, 5", "write, out: 4, 5", "write, all: 2, 5",
+    "check, none: 205", "check, secret: 2", "check, request: 201", "check, reply: 202", "check, all: 2",
 ]
 OF_C = {"memcpy", "memmove", "memset", "memcmp", "bcmp"}  # what a compiler may call by itself
 
@@ -59,7 +61,7 @@ def archive(probe, tally):
     declared = set(re.findall(r"^[a-z].* \*?(\w+)\(", (ROOT / "include" / "fumbokeri.h").read_text(), re.M))
     tally.same(declared - offered, set(), "declared, and not in the archive")
     tally.same({name for name in offered if not name.startswith("fbk_")}, set(), "names that are not the library's")
-    tally.same("fbk_handle" in declared, True, "fbk_handle is declared")
+    tally.same(declared >= {"fbk_handle", "fbk_write", "fbk_check_reply"}, True, "all three are declared")
 
 
 GROUPS = [

@@ -48,7 +48,9 @@ FAILED = [
 def call(function, *arguments):
     """On one line where the arguments take up to 60 letters, as `rt fmt` has it."""
     short = ", ".join(map(str, arguments))
-    return f"    {function}({short});\n" if len(short) <= 60 else f"    {function}(\n" + "".join(f"        {text},\n" for text in arguments) + "    );\n"
+    if len(short) <= 60:
+        return f"    {function}({short});\n"
+    return f"    {function}(\n" + "".join(f"        {text},\n" for text in arguments) + "    );\n"
 
 
 def source():
