@@ -240,7 +240,7 @@ uint32_t fbk_write(uint32_t code, uint8_t identifier,
  *   |---|----------------------------------------------------------------|
  *   | 2 | `secret_len` is not 1 to 64                                    |
  *
- *   |     | not right: the reply is not one to this request              |
+ *   |     | not right: ignore the reply                                  |
  *   |-----|--------------------------------------------------------------|
  *   | 201 | the request is none: a gate would discard it as 101 to 103   |
  *   | 202 | the reply is under 20 bytes; its Length is below 20, above   |
@@ -253,7 +253,7 @@ uint32_t fbk_write(uint32_t code, uint8_t identifier,
  *
  *   |   | right                                                          |
  *   |---|----------------------------------------------------------------|
- *   | 0 | whoever has the secret has sent this reply to this request     |
+ *   | 0 | none of the above: a reply to this request                     |
  *
  * A reply without a Message-Authenticator may be right, also where the request
  * has one. The request's own authenticator, Message-Authenticator and

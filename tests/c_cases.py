@@ -39,16 +39,27 @@ def nulls(probe, tally):
             tally.same(got, wanted, *language)
 
 
+def found(text, pattern):
+    match = re.search(pattern, text, re.M)
+    return match and match[1]
+
+
+def run_of(text, name):
+    """The bytes shown under this name."""
+    return bytes.fromhex(found(text, rf"^  {name:8}((?:[ \n]+[0-9a-f]{{2}})+)$") or "")
+
+
 def sample(probe, tally):
     """The sample gate prints what is stored, and that is what the second implementation answers."""
     stored = (ROOT / "samples" / "rooms.stdout").read_text()
     tally.same(ran(["gcc", "-std=c99"], ["samples/rooms.c", "samples/show.c"]), stored, "the sample gate")
     shown = re.split(r"^\d+\. ", stored, flags=re.M)[1:]
-    for text, told in zip(shown, sample_requests.answers(), strict=True):
-        numbers = re.search(r"^  answer   (\d+): ", text, re.M)[1], (re.search(r"changed: (\d+)", text) or "00")[1]
-        tally.same(numbers, (str(told.answer), str(told.changed)), "answer to:", text.splitlines()[0])
-        packet = re.search(r"^  reply   ((?:[ \n]+[0-9a-f]{2})+)$", text, re.M)
-        tally.same(bytes.fromhex(packet[1]) if packet else b"", told.reply[:told.reply_len], "reply to:", text.splitlines()[0])
+    for text, (packet, told, check) in zip(shown, sample_requests.answers(), strict=True):
+        title = text.splitlines()[0]
+        numbers = found(text, r"^  answer   (\d+): "), found(text, r"changed: (\d+)") or "0", found(text, r"^  check    (\d+): ")
+        tally.same(numbers, (str(told.answer), str(told.changed), None if check is None else str(check)), "answers to:", title)
+        tally.same(run_of(text, "packet"), packet, "request:", title)
+        tally.same(run_of(text, "reply"), told.reply[:told.reply_len], "reply to:", title)
 
 
 def archive(probe, tally):
