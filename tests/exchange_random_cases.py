@@ -10,17 +10,22 @@ ROUNDS = 10000
 OFTEN = 100  # each answer comes up so often at least
 
 
-def seeded_requests(probe, tally, rounds):
-    rng, seen = Random(3576), Counter()
-    for round in range(rounds):
-        asked, answer = any_asked(rng)
+def drafts(any_draft, rounds):
+    """The same in every run."""
+    rng = Random(3576)
+    return (any_draft(rng) for _ in range(rounds))
+
+
+def seeded_requests(probe, tally, drafts):
+    seen = Counter()
+    for round, (asked, answer) in enumerate(drafts):
         told = written(probe, tally, asked, "round", round, answer=answer)
         seen[told.answer, asked.code, asked.add != 0] += 1
     return seen
 
 
 def any_requests(probe, tally):
-    seen = seeded_requests(probe, tally, ROUNDS)
+    seen = seeded_requests(probe, tally, drafts(any_asked, ROUNDS))
     for answer in [0, 2, 4, 13]:
         for kind in [(40, False), (40, True), (43, False), (43, True)]:
             tally.same(seen[answer, *kind] >= OFTEN, True, "answer", answer, "to", *kind, "came up", seen[answer, *kind])
@@ -29,16 +34,15 @@ def any_requests(probe, tally):
         tally.same(twelve >= OFTEN // 2, True, "R12 to code", code, "came up", twelve)
 
 
-def seeded_replies(probe, tally, rounds):
-    rng, seen = Random(5176), Counter()
-    for round in range(rounds):
-        reply, answer = any_reply(rng)
+def seeded_replies(probe, tally, drafts):
+    seen = Counter()
+    for round, (reply, answer) in enumerate(drafts):
         seen[checked(probe, tally, reply, "round", round, answer=answer)] += 1
     return seen
 
 
 def any_replies(probe, tally):
-    seen = seeded_replies(probe, tally, ROUNDS)
+    seen = seeded_replies(probe, tally, drafts(any_reply, ROUNDS))
     for answer in [0, 2, *range(201, 207)]:
         tally.same(seen[answer] >= OFTEN, True, "answer", answer, "came up", seen[answer])
 

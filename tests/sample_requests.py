@@ -41,14 +41,15 @@ USER_9, USER_11, USER_12 = [attribute(1, b"room-%d" % room) for room in (9, 11, 
 SESSION = attribute(44, b"0000004F")
 ALLOWANCE = listed(SESSION, attribute(27, number(65748)), attribute(24, b"ledger 9"), attribute(33, b"proxy-1"), attribute(33, b"proxy-2"))
 FORGED = listed(USER_11)
+FROM_11_TO_12, FROM_NAK_TO_ACK = Change(19 + len(FORGED), ord("1") ^ ord("2")), Change(0, 42 ^ 41)
 REQUESTS = [
     Asked("The billing server raises the allowance of room 9 to 65,748 s.", COA, 1, ALLOWANCE),
     Asked("Both devices of room 12 get the Filter-Id of the night.", COA, 2, listed(USER_12, attribute(11, b"night")), 1),
     Asked("The session of room 9 is ended.", DISCONNECT, 3, listed(USER_9, SESSION), 1),
     Asked("The same once more: there is no such session now.", DISCONNECT, 3, listed(USER_9, SESSION), 1),
     Asked("A request of five minutes and a second ago.", DISCONNECT, 4, listed(USER_12, head=[stamp(CLOCK - 301)])),
-    Asked("A request for room 11, altered on its way to ask for room 12.", DISCONNECT, 5, FORGED, there=Change(19 + len(FORGED), ord("1") ^ ord("2"))),
-    Asked("A request whose answer is altered on its way back, from NAK to ACK.", DISCONNECT, 6, listed(USER_9), back=Change(0, 42 ^ 41)),
+    Asked("A request for room 11, altered on its way to ask for room 12.", DISCONNECT, 5, FORGED, there=FROM_11_TO_12),
+    Asked("A request whose answer is altered on its way back, from NAK to ACK.", DISCONNECT, 6, listed(USER_9), back=FROM_NAK_TO_ACK),
 ]
 
 
@@ -70,7 +71,8 @@ def header():
     text += "    size_t attributes_len;\n    uint32_t add_mac;\n    struct change there, back;\n} requests[] = {\n"
     for i, asked in enumerate(REQUESTS):
         changes = ", ".join(f"{{{change.at}, {change.by}}}" for change in (asked.there, asked.back))
-        text += f'    {{"{asked.title}",\n     {asked.code}, {asked.identifier}, attributes_{i + 1}, sizeof attributes_{i + 1}, {asked.add_mac}, {changes}}},\n'
+        area = f"attributes_{i + 1}, sizeof attributes_{i + 1}"
+        text += f'    {{"{asked.title}",\n     {asked.code}, {asked.identifier}, {area}, {asked.add_mac}, {changes}}},\n'
     return text + "};\n"
 
 

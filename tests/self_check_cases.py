@@ -1,5 +1,6 @@
 """The tests themselves: a reply check that does one thing wrong is found out."""
-from exchange_random_cases import seeded_replies
+from exchange_drafts import any_reply
+from exchange_random_cases import drafts, seeded_replies
 from exchanging import Reply, judgement, kept
 from packet_model import attributes, authenticator, bad_form, bad_mac, length_of
 from self_cases import quietly
@@ -88,12 +89,13 @@ CHECKS = [
 
 
 def wrong_checks(probe, tally):
+    replies = list(drafts(any_reply, ROUNDS))
     for spoil in [right, *CHECKS]:
         def standing_in(name, secret, request, reply):
             given = Reply(request, reply, secret)
             return kept(given, spoil(given, judgement(given)))
         inner = Tally()
-        quietly(seeded_replies, standing_in, inner, ROUNDS)
+        quietly(seeded_replies, standing_in, inner, replies)
         tally.same(inner.failed > 0, spoil is not right, "a reply check that", spoil.__name__)
 
 

@@ -1,8 +1,9 @@
 """The tests themselves: a request writer that does one thing wrong is found out."""
 import hashlib
 
+from exchange_drafts import any_asked
 from exchange_model import Written
-from exchange_random_cases import seeded_requests
+from exchange_random_cases import drafts, seeded_requests
 from exchanging import Asked, modelled, returned
 from packet_model import attributes
 from packets import sign
@@ -104,19 +105,21 @@ def writes_the_length_when_refused(asked, told):
 
 
 WRITERS = [
-    refuses_every_request, takes_296_for_40, puts_type_80_first, has_length_one_off, never_adds_type_80, adds_type_80_only_for_1,
-    signs_before_type_80, hashes_the_secret_first, lets_more_bytes_pass, lets_type_80_pass, refuses_4058_bytes_always, judges_attributes_before_the_code,
+    refuses_every_request, takes_296_for_40, puts_type_80_first, has_length_one_off,
+    never_adds_type_80, adds_type_80_only_for_1, signs_before_type_80, hashes_the_secret_first,
+    lets_more_bytes_pass, lets_type_80_pass, refuses_4058_bytes_always, judges_attributes_before_the_code,
     judges_the_output_before_the_secret, writes_behind_the_request, writes_the_length_when_refused,
 ]
 
 
 def wrong_writers(probe, tally):
+    asked_for = list(drafts(any_asked, ROUNDS))
     for spoil in [right, *WRITERS]:
         def standing_in(name, code, identifier, given, add, secret, out, length):
             asked = Asked(code, given, add, identifier, secret, out)
             return returned(asked, spoil(asked, modelled(asked)))
         inner = Tally()
-        quietly(seeded_requests, standing_in, inner, ROUNDS)
+        quietly(seeded_requests, standing_in, inner, asked_for)
         tally.same(inner.failed > 0, spoil is not right, "a writer that", spoil.__name__)
 
 
