@@ -4,7 +4,8 @@
  *
  * The library judges Disconnect-Requests and CoA-Requests (RFC 3576), ends
  * or alters the sessions that they name in a table of the caller's, and
- * writes the reply. It is for the firmware of an access gate (a NAS).
+ * writes the reply. It is for the firmware of an access gate (a NAS). For the
+ * other side, which sends the requests, it writes them and checks the replies.
  *
  * ## Conventions
  *
@@ -23,9 +24,9 @@
  *    `int64_t *`) are aligned and never `NULL`.
  *
  *  - **Threads.** Calls from several threads at once are safe where nothing
- *    that one of them writes is given to another: a table and a reply buffer
- *    for each thread. Secret, name and packet may be shared, as they are
- *    only read.
+ *    that one of them writes is given to another: a table, a reply buffer and
+ *    an output for each thread. What is only read may be shared: secret, name,
+ *    packet, attributes.
  *
  *  - **Numbers in packet and table** have their high byte first. The
  *    parameters of this header are numbers of the machine.
@@ -38,12 +39,13 @@
  *
  *   | answer     | meaning                                               |
  *   |------------|-------------------------------------------------------|
- *   | 0          | acknowledged (ACK), done                              |
+ *   | 0          | acknowledged (ACK); written; right                    |
  *   | 1 to 99    | refused: an argument is unfit, see below              |
  *   | 101 to 106 | the packet is to be discarded silently, see below     |
+ *   | 201 to 206 | the reply is not right, see below                     |
  *   | 401 to 599 | not acknowledged (NAK), with this Error-Cause         |
  *
- * 201 to 299 and 600 are kept for later calls.
+ * 600 is kept for later calls.
  *
  * ## The session table
  *
@@ -84,6 +86,9 @@ extern "C" {
 
 /** \brief Bytes that a reply buffer has at least. */
 #define FBK_REPLY_SIZE   4096
+
+/** \brief Bytes that an output for a request has at least. */
+#define FBK_REQUEST_SIZE   4096
 
 /**
  * \brief Handle one request.
@@ -172,6 +177,101 @@ uint32_t fbk_handle(uint8_t *table, size_t table_len,
 	const uint8_t *packet, size_t packet_len, uint32_t clock,
 	uint32_t *changed, uint32_t *reply_len,
 	int64_t *skew, uint32_t *stamped);
+
+/**
+ * \brief Write one request.
+ *
+ * The request is made of `code`, `identifier`, its Length, the authenticator
+ * and the attributes as they are given, and is signed with the secret, ready to
+ * be sent. If asked for, a Message-Authenticator (80) is added behind the
+ * attributes; it is worked out before the authenticator.
+ *
+ * A gate that has the same secret never discards what is written as 101 to
+ * 105. Nothing else is judged: whether the attributes name a session, are
+ * supported, or have the Event-Timestamp (55) without which a gate of ours
+ * discards them (106) is for the caller to see to.
+ *
+ * The answer is the first of these that applies:
+ *
+ *   |    | refused: nothing at all is written                            |
+ *   |----|---------------------------------------------------------------|
+ *   | 2  | `secret_len` is not 1 to 64                                   |
+ *   | 4  | `out_size` is under `FBK_REQUEST_SIZE`                        |
+ *   | 12 | `code` is not 40 (Disconnect-Request) or 43 (CoA-Request)     |
+ *   | 13 | the attributes do not fill `attributes_len`, one has length 0 |
+ *   |    | or 1, one is a Message-Authenticator (80), or they have more  |
+ *   |    | than 4,076 bytes (4,058 if one is to be added)                |
+ *
+ *   |   | written                                                        |
+ *   |---|----------------------------------------------------------------|
+ *   | 0 | the output holds the request                                   |
+ *
+ * The request stands in the first `*out_len` bytes of the output; those after
+ * stay as they were.
+ *
+ * \param code            40 or 43; any larger number is refused, 296 too.
+ * \param identifier      by which the reply will be known.
+ * \param attributes      attributes, each type, length, value; the length, 2
+ *                        to 255, counts all three. There may be none.
+ * \param attributes_len  their length in bytes.
+ * \param add_mac         whether to add a Message-Authenticator: 0 no, any
+ *                        other number yes.
+ * \param secret          secret shared with the gate.
+ * \param secret_len      its length in bytes, 1 to 64.
+ * \param out             buffer for the request; written only where the
+ *                        answer is 0.
+ * \param out_size        room in it, in bytes, `FBK_REQUEST_SIZE` or more.
+ * \param out_len         receives the length of the request; written only
+ *                        where the answer is 0.
+ *
+ * \return  the answer, one of the numbers above.
+ */
+uint32_t fbk_write(uint32_t code, uint8_t identifier,
+	const uint8_t *attributes, size_t attributes_len, uint32_t add_mac,
+	const uint8_t *secret, size_t secret_len,
+	uint8_t *out, size_t out_size, uint32_t *out_len);
+
+/**
+ * \brief Check the reply to a request.
+ *
+ * Nothing is written. The answer is the first of these that applies:
+ *
+ *   |   | refused                                                        |
+ *   |---|----------------------------------------------------------------|
+ *   | 2 | `secret_len` is not 1 to 64                                    |
+ *
+ *   |     | not right: ignore the reply                                  |
+ *   |-----|--------------------------------------------------------------|
+ *   | 201 | the request is none: a gate would discard it as 101 to 103   |
+ *   | 202 | the reply is under 20 bytes; its Length is below 20, above   |
+ *   |     | 4,096 or `reply_len`; its attributes do not fill Length, or  |
+ *   |     | one has length 0 or 1                                        |
+ *   | 203 | its code is not the request's plus 1 (ACK) or 2 (NAK)        |
+ *   | 204 | its identifier is not the request's                          |
+ *   | 205 | wrong authenticator                                          |
+ *   | 206 | Message-Authenticator (80) repeated, not of length 18, wrong |
+ *
+ *   |   | right                                                          |
+ *   |---|----------------------------------------------------------------|
+ *   | 0 | none of the above: a reply to this request                     |
+ *
+ * A reply without a Message-Authenticator may be right, also where the request
+ * has one. The request's own authenticator, Message-Authenticator and
+ * Event-Timestamp are not judged. Every reply that `fbk_handle` writes is right
+ * for its packet and its secret.
+ *
+ * \param secret       secret shared with the gate.
+ * \param secret_len   its length in bytes, 1 to 64.
+ * \param request      request as it was sent.
+ * \param request_len  its length in bytes; those after its Length are ignored.
+ * \param reply        reply as it was received.
+ * \param reply_len    bytes received; those after its Length are ignored.
+ *
+ * \return  the answer, one of the numbers above.
+ */
+uint32_t fbk_check_reply(const uint8_t *secret, size_t secret_len,
+	const uint8_t *request, size_t request_len,
+	const uint8_t *reply, size_t reply_len);
 
 #ifdef __cplusplus
 }

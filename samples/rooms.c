@@ -1,4 +1,4 @@
-/* A minimal host: the gate of a care home with a few rooms takes the requests that requests.h has stored. */
+/* A minimal host: the gate of a care home with a few rooms, and the billing server, which asks it for what requests.h lists. */
 #include <stdio.h>
 #include <string.h>
 
@@ -9,6 +9,8 @@
 enum { SLOTS = 4 };
 
 static uint8_t table[SLOTS * FBK_SLOT_SIZE]; /* zeros: every slot is free */
+static uint8_t sent[FBK_REQUEST_SIZE]; /* the billing server's request */
+static uint8_t packet[FBK_REQUEST_SIZE]; /* as it comes to the gate */
 static uint8_t reply[FBK_REPLY_SIZE];
 
 static void put_number(uint8_t *p, uint32_t v)
@@ -47,11 +49,11 @@ static void show_table(const char *title)
         show_slot("", k, table + k * FBK_SLOT_SIZE);
 }
 
-static void take(const uint8_t *packet, size_t length)
+/* The gate takes the packet, and returns the length of its reply. */
+static uint32_t take(size_t length)
 {
     uint8_t before[sizeof table];
     memcpy(before, table, sizeof table);
-    show_packet("packet", packet);
 
     uint32_t changed = 0, reply_len = 0, stamped = 0;
     int64_t skew = 0;
@@ -68,10 +70,40 @@ static void take(const uint8_t *packet, size_t length)
             show_slot("after", k, new);
         }
     }
-    if (reply_len > 0)
-        show_packet("reply", reply);
-    else
+    return reply_len;
+}
+
+static void alter(const char *way, uint8_t *p, struct change change)
+{
+    if (change.by == 0)
+        return;
+    p[change.at] ^= change.by;
+    printf("  altered  byte %u, on the way %s\n", (unsigned)change.at, way);
+}
+
+/* The billing server writes a request, the gate takes it, and the billing server checks the reply. */
+static int ask(const struct request *asked)
+{
+    uint32_t length = 0;
+    uint32_t answer = fbk_write(asked->code, asked->identifier, asked->attributes, asked->attributes_len, asked->add_mac, secret,
+                                sizeof secret, sent, sizeof sent, &length);
+    if (answer != 0) {
+        printf("  not written: %u\n", (unsigned)answer);
+        return 0;
+    }
+    memcpy(packet, sent, length);
+    alter("there", packet, asked->there);
+    show_packet("packet", packet);
+
+    uint32_t reply_len = take(length);
+    if (reply_len == 0) {
         printf("  reply    none\n");
+        return 1;
+    }
+    show_packet("reply", reply);
+    alter("back", reply, asked->back);
+    show_check(fbk_check_reply(secret, sizeof secret, sent, length, reply, reply_len));
+    return 1;
 }
 
 int main(void)
@@ -83,7 +115,8 @@ int main(void)
     show_table("Its session table:");
     for (size_t i = 0; i < sizeof requests / sizeof *requests; i++) {
         printf("\n%u. %s\n", (unsigned)i + 1, requests[i].title);
-        take(requests[i].packet, requests[i].length);
+        if (!ask(&requests[i]))
+            return 1;
     }
     printf("\n");
     show_table("The session table at the end:");

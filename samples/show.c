@@ -110,3 +110,14 @@ void show_answer(uint32_t answer, uint32_t changed, int64_t skew, uint32_t stamp
     else
         printf("; no stamp is usable\n");
 }
+
+void show_check(uint32_t answer)
+{
+    printf("  check    %u: ", (unsigned)answer);
+    if (answer == 0)
+        printf("the reply is right\n");
+    else if (answer < 100)
+        printf("refused (R%u)\n", (unsigned)answer);
+    else
+        printf("the reply is not right (V%u)\n", (unsigned)answer - 200);
+}

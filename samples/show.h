@@ -13,3 +13,6 @@ void show_slot(const char *when, size_t k, const uint8_t *slot);
 
 /* What fbk_handle told. */
 void show_answer(uint32_t answer, uint32_t changed, int64_t skew, uint32_t stamped);
+
+/* What fbk_check_reply told. */
+void show_check(uint32_t answer);

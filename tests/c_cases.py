@@ -14,6 +14,8 @@ KEPT, NONE = "5 6 -8 7", "0 0 0 0"  # the four numbers: as they were, or as a di
 NULLS = [
     f"none: 104, {NONE}", f"table: 1, {KEPT}", f"secret: 2, {KEPT}", f"nas_id: 3, {KEPT}", f"reply: 4, {KEPT}", f"packet: 101, {NONE}",
     f"all but the table: 2, {KEPT}", f"all: 1, {KEPT}",
+    "write, none: 0, 40", "write, attributes: 0, 38", "write, secret: 2, 5", "write, out: 4, 5", "write, all: 2, 5",
+    "check, none: 205", "check, secret: 2", "check, request: 201", "check, reply: 202", "check, all: 2",
 ]
 OF_C = {"memcpy", "memmove", "memset", "memcmp", "bcmp"}  # what a compiler may call by itself
 
@@ -37,16 +39,27 @@ def nulls(probe, tally):
             tally.same(got, wanted, *language)
 
 
+def found(text, pattern):
+    match = re.search(pattern, text, re.M)
+    return match and match[1]
+
+
+def run_of(text, name):
+    """The bytes shown under this name."""
+    return bytes.fromhex(found(text, rf"^  {name:8}((?:[ \n]+[0-9a-f]{{2}})+)$") or "")
+
+
 def sample(probe, tally):
     """The sample gate prints what is stored, and that is what the second implementation answers."""
     stored = (ROOT / "samples" / "rooms.stdout").read_text()
     tally.same(ran(["gcc", "-std=c99"], ["samples/rooms.c", "samples/show.c"]), stored, "the sample gate")
     shown = re.split(r"^\d+\. ", stored, flags=re.M)[1:]
-    for text, told in zip(shown, sample_requests.answers(), strict=True):
-        numbers = re.search(r"^  answer   (\d+): ", text, re.M)[1], (re.search(r"changed: (\d+)", text) or "00")[1]
-        tally.same(numbers, (str(told.answer), str(told.changed)), "answer to:", text.splitlines()[0])
-        packet = re.search(r"^  reply   ((?:[ \n]+[0-9a-f]{2})+)$", text, re.M)
-        tally.same(bytes.fromhex(packet[1]) if packet else b"", told.reply[:told.reply_len], "reply to:", text.splitlines()[0])
+    for text, (packet, told, check) in zip(shown, sample_requests.answers(), strict=True):
+        title = text.splitlines()[0]
+        numbers = found(text, r"^  answer   (\d+): "), found(text, r"changed: (\d+)") or "0", found(text, r"^  check    (\d+): ")
+        tally.same(numbers, (str(told.answer), str(told.changed), None if check is None else str(check)), "answers to:", title)
+        tally.same(run_of(text, "packet"), packet, "request:", title)
+        tally.same(run_of(text, "reply"), told.reply[:told.reply_len], "reply to:", title)
 
 
 def archive(probe, tally):
@@ -59,7 +72,7 @@ def archive(probe, tally):
     declared = set(re.findall(r"^[a-z].* \*?(\w+)\(", (ROOT / "include" / "fumbokeri.h").read_text(), re.M))
     tally.same(declared - offered, set(), "declared, and not in the archive")
     tally.same({name for name in offered if not name.startswith("fbk_")}, set(), "names that are not the library's")
-    tally.same("fbk_handle" in declared, True, "fbk_handle is declared")
+    tally.same(declared >= {"fbk_handle", "fbk_write", "fbk_check_reply"}, True, "all three are declared")
 
 
 GROUPS = [

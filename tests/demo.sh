@@ -28,15 +28,16 @@ echo 'Fumbokeri: the receiving side of RADIUS Dynamic Authorization, proved.'
 echo
 echo 'First the proofs. From nothing they take some minutes.'
 echo
-proved rt check vectors
+proved rt check vectors vectors_requests
 proved rt staticlib capi
 echo
-echo 'Then the proved code, run on the examples that the RFCs print and on stored packets.'
+echo 'Then the proved code, run on the examples that the RFCs print, on stored packets, requests and replies.'
 echo
 shown target/bin/vectors crates/vectors/stdout
+shown target/bin/vectors_requests crates/vectors_requests/stdout
 echo 'All as in the RFCs and as the second implementation answers.'
 echo
-echo 'Last, a gate in a care home: samples/rooms.c, a C program over the library, takes the requests of its billing server.'
+echo 'Last, a gate in a care home and its billing server: samples/rooms.c, a C program over the library, writes requests, takes them and checks the replies.'
 echo
 gcc -std=c99 -Wall -Wextra -O2 -o target/demo/rooms samples/rooms.c samples/show.c target/staticlib/libcapi.a || exit 1
 shown target/demo/rooms samples/rooms.stdout

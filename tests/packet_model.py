@@ -48,21 +48,30 @@ def attributes(p, n):
     return found
 
 
+def length_of(p):
+    return int.from_bytes(p[2:4], "big")
+
+
+def bad_length(p):
+    """D1's rule."""
+    return len(p) < 20 or not 20 <= length_of(p) <= min(4096, len(p))
+
+
 def bad_form(p):
     """D1, D2 or D3; 0 where none applies."""
-    n = int.from_bytes(p[2:4], "big")
-    if len(p) < 20 or n < 20 or n > 4096 or n > len(p):
+    if bad_length(p):
         return 1
     if p[0] not in SUPPORTED:
         return 2
-    return 3 if attributes(p, n) is None else 0
+    return 3 if attributes(p, length_of(p)) is None else 0
 
 
-def bad_mac(p, n, secret):
+def bad_mac(p, n, auth, secret):
+    """Type 80 repeated, of wrong length or wrong, worked out over auth."""
     macs = [a for a in attributes(p, n) if a.kind == 80]
     if len(macs) > 1:
         return True
-    return any(a.value != message_authenticator(p, n, ZEROS, a.place, secret) for a in macs)
+    return any(a.value != message_authenticator(p, n, auth, a.place, secret) for a in macs)
 
 
 def cause(code, found, gate):
@@ -89,10 +98,10 @@ def verdict(p, gate, clock):
     form = bad_form(p)
     if form:
         return 100 + form, None
-    n = int.from_bytes(p[2:4], "big")
+    n = length_of(p)
     if p[4:20] != authenticator(p, n, ZEROS, gate.secret):
         return 104, None
-    if bad_mac(p, n, gate.secret):
+    if bad_mac(p, n, ZEROS, gate.secret):
         return 105, None
     found = attributes(p, n)
     stamps = [a.value for a in found if a.kind == 55]

@@ -28,18 +28,17 @@ def unsigned(code, parts, length=None, identifier=7):
     return bytes([code, identifier]) + (20 + len(area) if length is None else length).to_bytes(2, "big") + bytes(16) + area
 
 
-def sign(p, secret=GATE.secret):
+def sign(p, secret=GATE.secret, auth=bytes(16)):
     """The packet up to its Length with the right authenticator; what is behind Length stays."""
-    n = int.from_bytes(p[2:4], "big")
-    return p[:4] + packet_model.authenticator(p, n, bytes(16), secret) + p[20:]
+    return p[:4] + packet_model.authenticator(p, packet_model.length_of(p), auth, secret) + p[20:]
 
 
-def put_macs(p, parts, secret=GATE.secret):
+def put_macs(p, parts, secret=GATE.secret, auth=bytes(16)):
     """The packet with the right value in each MAC among the parts."""
     at = 20
     for part in parts:
         if part is MAC:
-            p = p[:at + 2] + packet_model.message_authenticator(p, len(p), bytes(16), at + 2, secret) + p[at + 18:]
+            p = p[:at + 2] + packet_model.message_authenticator(p, len(p), auth, at + 2, secret) + p[at + 18:]
         at += len(part)
     return p
 
@@ -47,6 +46,12 @@ def put_macs(p, parts, secret=GATE.secret):
 def request(code, parts, gate=GATE, identifier=7):
     """Rightly signed."""
     return sign(put_macs(unsigned(code, parts, identifier=identifier), parts, gate.secret), gate.secret)
+
+
+def reply(asked, parts, more=1, secret=GATE.secret, identifier=None):
+    """To what was asked, rightly signed: its code and `more`, its identifier unless another is given."""
+    p = unsigned((asked[0] + more) % 256, parts, identifier=asked[1] if identifier is None else identifier)
+    return sign(put_macs(p, parts, secret, asked[4:20]), secret, asked[4:20])
 
 
 def good(code):

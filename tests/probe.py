@@ -31,8 +31,10 @@ SIGNATURES = {
     "table_insert": BYTES + U32 * 4 + BYTES * 4 + POINTER,
     "table_remove": BYTES + SIZE,
     "handle": BYTES + BYTES + U32 + BYTES + BYTES + BYTES + U32 + POINTER * 4,
+    "write": U32 + U8 + BYTES + U32 + BYTES + BYTES + POINTER,
+    "check_reply": BYTES + BYTES + BYTES,
 }
-PRODUCT = {"handle"}  # fbk_NAME of the product's own library; the others are probe_NAME
+PRODUCT = {"handle", "write", "check_reply"}  # fbk_NAME of the product's own library; the others are probe_NAME
 
 NULL = None  # a run of no bytes that lies nowhere
 

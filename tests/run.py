@@ -6,6 +6,8 @@ import c_cases
 import cause_cases
 import discard_cases
 import equal_cases
+import exchange_handler_cases
+import exchange_random_cases
 import handle_random_cases
 import handle_refusal_cases
 import handle_reply_cases
@@ -16,8 +18,12 @@ import number_cases
 import packet_null_cases
 import random_cases
 import refusal_cases
+import reply_check_cases
+import request_writer_cases
 import runner
 import self_cases
+import self_check_cases
+import self_write_cases
 import signature_cases
 import stamp_cases
 import stored_cases
@@ -32,6 +38,8 @@ from probe import Probe
 
 MODULES = [
     self_cases,
+    self_write_cases,
+    self_check_cases,
     md5_cases,
     hmac_cases,
     refusal_cases,
@@ -54,6 +62,10 @@ MODULES = [
     handle_session_cases,
     handle_reply_cases,
     handle_random_cases,
+    request_writer_cases,
+    reply_check_cases,
+    exchange_random_cases,
+    exchange_handler_cases,
     c_cases,
     stored_cases,
 ]

@@ -1,10 +1,12 @@
-"""The requests that the sample gate takes: python3 tests/sample_requests.py writes samples/requests.h."""
+"""What the billing server of the sample asks the gate for: python3 tests/sample_requests.py writes samples/requests.h."""
 from pathlib import Path
+from typing import NamedTuple
 
+import exchange_model
 import handle_model
 import table_model
 from packet_model import Gate
-from packets import CLOCK, COA, DISCONNECT, MAC, attribute, request, stamp
+from packets import CLOCK, COA, DISCONNECT, attribute, stamp
 from table_model import number
 
 PLACE = Path(__file__).parent.parent / "samples" / "requests.h"
@@ -12,19 +14,42 @@ GATE = Gate(b"care home secret", 0xC0000207, b"oak-gate")
 HEAD = [stamp(CLOCK - 2), attribute(4, number(GATE.address)), attribute(32, GATE.name)]
 
 
-def asking(code, identifier, parts, gate=GATE, head=HEAD):
-    return request(code, head + parts, gate, identifier)
+class Change(NamedTuple):
+    """A byte that is altered on the way, and by what; 0 for none."""
+    at: int = 0
+    by: int = 0
+
+    def made(self, packet):
+        return packet[:self.at] + bytes([packet[self.at] ^ self.by]) + packet[self.at + 1:] if packet else packet
 
 
-ALLOWANCE = [attribute(44, b"0000004F"), attribute(27, number(65748)), attribute(24, b"ledger 9"), attribute(33, b"proxy-1"), attribute(33, b"proxy-2")]
-ENDING = [attribute(1, b"room-9"), attribute(44, b"0000004F"), MAC]
+class Asked(NamedTuple):
+    title: str
+    code: int
+    identifier: int
+    attributes: bytes
+    add_mac: int = 0
+    there: Change = Change()
+    back: Change = Change()
+
+
+def listed(*parts, head=HEAD):
+    return b"".join([*head, *parts])
+
+
+USER_9, USER_11, USER_12 = [attribute(1, b"room-%d" % room) for room in (9, 11, 12)]
+SESSION = attribute(44, b"0000004F")
+ALLOWANCE = listed(SESSION, attribute(27, number(65748)), attribute(24, b"ledger 9"), attribute(33, b"proxy-1"), attribute(33, b"proxy-2"))
+FORGED = listed(USER_11)
+FROM_11_TO_12, FROM_NAK_TO_ACK = Change(19 + len(FORGED), ord("1") ^ ord("2")), Change(0, 42 ^ 41)
 REQUESTS = [
-    ("The billing server raises the allowance of room 9 to 65,748 s.", asking(COA, 1, ALLOWANCE)),
-    ("Both devices of room 12 get the Filter-Id of the night.", asking(COA, 2, [attribute(1, b"room-12"), attribute(11, b"night"), MAC])),
-    ("The session of room 9 is ended.", asking(DISCONNECT, 3, ENDING)),
-    ("The same once more: there is no such session now.", asking(DISCONNECT, 3, ENDING)),
-    ("A request of five minutes and a second ago.", asking(DISCONNECT, 4, [attribute(1, b"room-12")], head=[stamp(CLOCK - 301)])),
-    ("A request signed with another secret.", asking(DISCONNECT, 5, [attribute(1, b"room-12")], GATE._replace(secret=b"guessed"))),
+    Asked("The billing server raises the allowance of room 9 to 65,748 s.", COA, 1, ALLOWANCE),
+    Asked("Both devices of room 12 get the Filter-Id of the night.", COA, 2, listed(USER_12, attribute(11, b"night")), 1),
+    Asked("The session of room 9 is ended.", DISCONNECT, 3, listed(USER_9, SESSION), 1),
+    Asked("The same once more: there is no such session now.", DISCONNECT, 3, listed(USER_9, SESSION), 1),
+    Asked("A request of five minutes and a second ago.", DISCONNECT, 4, listed(USER_12, head=[stamp(CLOCK - 301)])),
+    Asked("A request for room 11, altered on its way to ask for room 12.", DISCONNECT, 5, FORGED, there=FROM_11_TO_12),
+    Asked("A request whose answer is altered on its way back, from NAK to ACK.", DISCONNECT, 6, listed(USER_9), back=FROM_NAK_TO_ACK),
 ]
 
 
@@ -34,15 +59,20 @@ def lines(run, width=16):
 
 
 def header():
-    text = "/* Requests to the gate of samples/rooms.c, and its settings: written by tests/sample_requests.py. */\n#include <stddef.h>\n#include <stdint.h>\n\n"
+    text = "/* What the billing server asks the gate of samples/rooms.c for, and the gate's settings: written by tests/sample_requests.py. */\n"
+    text += "#include <stddef.h>\n#include <stdint.h>\n\n"
     text += f"static const uint8_t secret[{len(GATE.secret)}] = {{ /* {GATE.secret.decode()} */\n{lines(GATE.secret)}}};\n"
     text += f"static const uint8_t nas_id[{len(GATE.name)}] = {{ /* {GATE.name.decode()} */\n{lines(GATE.name)}}};\n"
     text += f"static const uint32_t nas_ip = 0x{GATE.address:08X}; /* 192.0.2.7 */\nstatic const uint32_t clock_now = {CLOCK};\n\n"
-    for i, (_, packet) in enumerate(REQUESTS):
-        text += f"static const uint8_t request_{i + 1}[{len(packet)}] = {{\n{lines(packet)}}};\n"
-    text += "\nstatic const struct {\n    const char *title;\n    const uint8_t *packet;\n    size_t length;\n} requests[] = {\n"
-    for i, (title, packet) in enumerate(REQUESTS):
-        text += f'    {{"{title}", request_{i + 1}, {len(packet)}}},\n'
+    for i, asked in enumerate(REQUESTS):
+        text += f"static const uint8_t attributes_{i + 1}[{len(asked.attributes)}] = {{\n{lines(asked.attributes)}}};\n"
+    text += "\n/* A byte that is altered on the way, and by what; 0 for none. */\nstruct change {\n    size_t at;\n    uint8_t by;\n};\n\n"
+    text += "static const struct request {\n    const char *title;\n    uint32_t code;\n    uint8_t identifier;\n    const uint8_t *attributes;\n"
+    text += "    size_t attributes_len;\n    uint32_t add_mac;\n    struct change there, back;\n} requests[] = {\n"
+    for i, asked in enumerate(REQUESTS):
+        changes = ", ".join(f"{{{change.at}, {change.by}}}" for change in (asked.there, asked.back))
+        area = f"attributes_{i + 1}, sizeof attributes_{i + 1}"
+        text += f'    {{"{asked.title}",\n     {asked.code}, {asked.identifier}, {area}, {asked.add_mac}, {changes}}},\n'
     return text + "};\n"
 
 
@@ -52,14 +82,18 @@ def room(port, address, timeout, user, id, station, filter):
 
 
 def answers():
-    """Of the second implementation, one for each request, from the table that samples/rooms.c makes."""
+    """Of the second implementation, from the table that samples/rooms.c makes: for each request the packet that comes to the gate,
+    what the gate makes of it, and what the check says of the reply that comes back; None where there is none."""
     table = room(9, 0x0A000009, 65000, b"room-9", b"0000004F", b"02-00-5E-10-00-09", b"day")
     table += room(12, 0x0A00000C, 7200, b"room-12", b"00000050", b"02-00-5E-10-00-0C", b"day") + bytes(192)
     table += room(12, 0x0A00000D, 7200, b"room-12", b"00000051", b"02-00-5E-10-00-0D", b"guest")
-    for _, packet in REQUESTS:
+    for asked in REQUESTS:
+        sent = exchange_model.request_of(asked.code, asked.identifier, asked.attributes, asked.add_mac, GATE.secret)
+        packet = asked.there.made(sent)
         told = handle_model.handle(table, *GATE, bytes(4096), packet, CLOCK)
         table = told.table
-        yield told
+        back = asked.back.made(told.reply[:told.reply_len])
+        yield packet, told, exchange_model.check_reply(GATE.secret, sent, back) if back else None
 
 
 if __name__ == "__main__":
