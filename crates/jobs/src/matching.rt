@@ -51,10 +51,11 @@ impl Job {
         let words = self.words;
         let mut marks = self.marks;
         let n = self.length;
+        let next = k + 1;
         if matches(t, k, n, q, f, count, ends, sizes) {
             marks[k] = 1;
             return Job {
-                stage: Stage::Match(k + 1),
+                stage: Stage::Match(next),
                 words,
                 marks,
                 length: n,
@@ -62,7 +63,7 @@ impl Job {
             };
         }
         Job {
-            stage: Stage::Match(k + 1),
+            stage: Stage::Match(next),
             words,
             marks,
             length: n,

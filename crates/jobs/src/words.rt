@@ -31,7 +31,8 @@ fn after_block(words: [u32; 4], q: &[u8], n: usize, secret: &[u8], k: usize) -> 
     ensures { λ r. ⌜ r ≡ wordsOf (hashed (stateOf words) k (now (q .entry)) n (now (secret .entry))) ⌝ }
 {
     let before = state_of(words);
-    words_of(signing::hash_block(before, q, n, secret, k))
+    let after = signing::hash_block(before, q, n, secret, k);
+    words_of(after)
 }
 
 impl Job {
@@ -43,10 +44,11 @@ impl Job {
         let held = self.words;
         let marks = self.marks;
         let n = self.length;
+        let next = k + 1;
         let words = after_block(held, q, n, secret, k);
-        if k + 1 < signing::block_count(n + secret.len()) {
+        if next < signing::block_count(n + secret.len()) {
             return Job {
-                stage: Stage::Hash(k + 1),
+                stage: Stage::Hash(next),
                 words,
                 marks,
                 length: n,

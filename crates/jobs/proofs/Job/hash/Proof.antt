@@ -6,9 +6,9 @@ use Rattle.jobs.proofs.Hashing.{blocks-few, hash-on, hash-last}
 use Rattle.jobs.proofs.Job.hash.Statement.{statement}
 use Rattle.jobs.proofs.Job.hash.Tie as tie
 
-add-if1 : tie.Need-add-if1
-add-if1 c =
-    let start = c .before .before .before .before .before in
+add-next : tie.Need-add-next
+add-next c =
+    let start = c .before .before .before .before in
     let few = blocks-few _ _ _ (start .pre .2) (start .pre .3) (start .pre .4) in
     omega arith
 
@@ -22,10 +22,9 @@ pub hash-spec : {M : Type 1} → statement M
 hash-spec =
     tie.close
     (tie.spec
-    (λ c κs. search needs)
-    add-if1
-    (λ c. search needs)
+    add-next
     (λ c κs. search needs)
     (λ c. search needs)
+    (λ c κs. search needs)
     returns
     returns-2)
