@@ -209,7 +209,7 @@ uint32_t fbk_handle(uint8_t *table, size_t table_len,
  * The request stands in the first `*out_len` bytes of the output; those after
  * stay as they were.
  *
- * \param code            40 or 43; any larger number is refused, 296 too.
+ * \param code            40 or 43; any other number is refused, 296 too.
  * \param identifier      by which the reply will be known.
  * \param attributes      attributes, each type, length, value; the length, 2
  *                        to 255, counts all three. There may be none.
