@@ -1,13 +1,15 @@
 """What is written by the second implementation and stored is what it writes now."""
 import sample_requests
 import stored_packets
+import stored_requests
 
 
 def files(probe, tally):
     tally.same(sample_requests.PLACE.read_text(), sample_requests.header(), "samples/requests.h, by tests/sample_requests.py")
     tally.same(stored_packets.SOURCE.read_text(), stored_packets.source(), "crates/vectors/src/stored.rt, by tests/stored_packets.py")
-    written = stored_packets.others() + stored_packets.lines()
-    tally.same(stored_packets.STDOUT.read_text(), written, "crates/vectors/stdout, by tests/stored_packets.py")
+    tally.same(stored_requests.SOURCE.read_text(), stored_requests.source(), "crates/vectors/src/exchanged.rt, by tests/stored_requests.py")
+    written = stored_packets.vectors() + stored_packets.lines() + stored_requests.lines()
+    tally.same(stored_packets.STDOUT.read_text(), written, "crates/vectors/stdout, by tests/stored_packets.py and stored_requests.py")
 
 
 def answers(probe, tally):
@@ -21,7 +23,17 @@ def answers(probe, tally):
     tally.same((nak[:8], nak[40:]), ("2a07001d", "6506000001f7210341"), "the marked NAK 503")
 
 
+def exchanges(probe, tally):
+    """The stored requests and replies are answered as their names say."""
+    for text in stored_requests.lines().splitlines():
+        name, answer = text.split(" ", 1)[1].split(" answer ")
+        word = name.replace(",", "").split()[0]
+        wanted = {"R": 0, "V": 200}[word[0]] + int(word[1:]) if word[1:].isdigit() else 0
+        tally.same(int(answer.split()[0]), wanted, "stored", text.split(" ")[0], name)
+
+
 GROUPS = [
     ("stored files are as they are written now", files),
     ("stored packets are answered by their names", answers),
+    ("stored requests and replies are answered by their names", exchanges),
 ]

@@ -92,11 +92,17 @@ def lines():
     return f"Table{slots(bytes(384), TABLE)}\n" + "".join(line(*case) for cases in GROUPS.values() for case in cases)
 
 
-def others():
+def others(*beginnings):
+    """The stored lines that do not begin so."""
+    return "".join(text for text in STDOUT.read_text().splitlines(True) if not text.startswith(beginnings))
+
+
+def vectors():
     """The lines of the RFCs' vectors, which stand before."""
-    return "".join(text for text in STDOUT.read_text().splitlines(True) if not text.startswith(("Table ", "Packet ")))
+    return others("Table ", "Packet ", "Request ", "Reply ")
 
 
 if __name__ == "__main__":
-    STDOUT.write_text(others() + lines())
+    before, behind = vectors(), others("MD5 ", "HMAC-MD5 ", "Table ", "Packet ")
+    STDOUT.write_text(before + lines() + behind)
     SOURCE.write_text(source())

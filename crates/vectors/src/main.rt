@@ -1,4 +1,6 @@
-// The vectors of RFC 1321, A.5, and of RFC 2202, 2, one line each: its name and its digest. Then stored packets.
+// The vectors of RFC 1321, A.5, and of RFC 2202, 2, one line each: its name and its digest. Then stored packets, requests and replies.
+mod exchange; // exchange.rt: a request written, a reply checked
+mod exchanged; // exchanged.rt: the requests and replies
 mod packets; // packets.rt: a packet through the handler
 mod stored; // stored.rt: the packets
 
@@ -127,4 +129,6 @@ fn main() {
     stored::discards();
     stored::naks();
     stored::acks();
+    exchanged::written();
+    exchanged::checked();
 }

@@ -2,23 +2,23 @@
 ghost use Prim.Native.Nat.{_≤_, _<_};
 use libc::STDOUT_FILENO;
 
-fn wide(x: u8) -> u64
+pub fn wide(x: u8) -> u64
     ensures { λ r. ⌜ r < 256 ⌝ }
 {
     x as u64
 }
 
-fn hex(s: &[u8]) {
+pub fn hex(s: &[u8]) {
     for i in 0..s.len() {
         io::print_hex(STDOUT_FILENO, wide(s[i]), 2);
     }
 }
 
-fn word(w: &[u8]) {
+pub fn word(w: &[u8]) {
     io::write_all(STDOUT_FILENO, w);
 }
 
-fn number(name: &[u8], n: u64) {
+pub fn number(name: &[u8], n: u64) {
     word(name);
     io::print_decimal(STDOUT_FILENO, n);
 }
