@@ -16,7 +16,10 @@ import number_cases
 import packet_null_cases
 import random_cases
 import refusal_cases
+import reread_cases
 import runner
+import scheduler_cases
+import scheduler_self_cases
 import self_cases
 import signature_cases
 import stamp_cases
@@ -32,6 +35,9 @@ from probe import Probe
 
 MODULES = [
     self_cases,
+    scheduler_self_cases,
+    scheduler_cases,
+    reread_cases,
     md5_cases,
     hmac_cases,
     refusal_cases,
