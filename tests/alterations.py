@@ -2,7 +2,7 @@
 from typing import Callable, NamedTuple
 
 from packet_model import attributes, length_of
-from packets import COA, DISCONNECT, GATE, attribute, stamp
+from packets import COA, DISCONNECT, GATE, attribute
 from table_model import number
 
 FORM = None  # stands for D1 in Check, Match and Commit alike

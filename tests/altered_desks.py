@@ -70,8 +70,10 @@ def valued():
     stamped = [STAMP, stamp(CLOCK + 10000)]
     user, timeout = [USER, attribute(1, b"ano")], [TIMEOUT, attribute(27, number(65748))]
     for name, (old, new), place, wanted in [
-        ("Ben for Ann before slot 0", user, 0, (0, 1, 0)), ("Ben for Ann before slot 2", user, 2, (0, 2, 0)), ("Ben for Ann before Commit", user, 5, (0, 2, 0)),
-        ("a late stamp before slot 0", stamped, 0, (0, 2, 10000)), ("a late stamp before Commit", stamped, 5, (0, 2, 10000)), ("a timeout before Commit", timeout, 5, (0, 2, 0)),
+        ("Ben for Ann before slot 0", user, 0, (0, 1, 0)), ("Ben for Ann before slot 2", user, 2, (0, 2, 0)),
+        ("Ben for Ann before Commit", user, 5, (0, 2, 0)),
+        ("a late stamp before slot 0", stamped, 0, (0, 2, 10000)), ("a late stamp before Commit", stamped, 5, (0, 2, 10000)),
+        ("a timeout before Commit", timeout, 5, (0, 2, 0)),
     ]:
         desk = at_slot(COA, place)
         desk.write(1, packet(desk).replace(old, new))
@@ -99,13 +101,14 @@ def half_hashed():
 
 
 def other_tables():
-    """Job 1 stands before slot `place` of TABLE, which has Ann in slots 1 and 4: a name, the desk, and steps to the end, answer, sessions changed."""
+    """Job 1 stands before slot `place` of TABLE, which has Ann in slots 1 and 4: a name, the desk; steps to the end, answer, count."""
     def put(k, slot):
         return lambda table: table_model.with_slot(table, k, slot)
     ann, ben, none = loose(RNG, ANN), loose(RNG, BEN), bytes(192)
     for name, place, written, wanted in [
-        ("as it was", 3, lambda t: t, (3, 0, 2)), ("cut at the place", 3, lambda t: t[:3 * 192], (1, 0, 1)), ("cut before the place", 3, lambda t: t[:2 * 192], (1, 0, 1)),
-        ("cut before the mark", 3, lambda t: t[:192], (1, 503, 0)), ("cut before Commit", 5, lambda t: t[:4 * 192], (1, 0, 1)),
+        ("as it was", 3, lambda t: t, (3, 0, 2)), ("cut at the place", 3, lambda t: t[:3 * 192], (1, 0, 1)),
+        ("cut before the place", 3, lambda t: t[:2 * 192], (1, 0, 1)), ("cut before the mark", 3, lambda t: t[:192], (1, 503, 0)),
+        ("cut before Commit", 5, lambda t: t[:4 * 192], (1, 0, 1)),
         ("grown before Commit", 5, lambda t: t + people("ba"), (3, 0, 3)), ("grown to 64", 5, lambda t: t + people("b" * 59), (60, 0, 2)),
         ("a marked slot free", 5, put(1, none), (1, 0, 1)), ("all marked slots free", 5, lambda t: put(1, none)(put(4, none)(t)), (1, 503, 0)),
         ("another in a marked slot", 5, put(1, ben), (1, 0, 2)), ("one more, behind the place", 5, put(0, ann), (1, 0, 2)),
@@ -134,7 +137,8 @@ def disturbed():
 
 def directed():
     """The desks of all these cases, each job run to its end."""
-    made = [row[0] for row in written(CLAUSES + FOLLOWED)] + [row[1] for rows in (valued(), half_hashed(), other_tables(), disturbed()) for row in rows]
+    made = [row[0] for row in written(CLAUSES + FOLLOWED)]
+    made += [row[1] for rows in (valued(), half_hashed(), other_tables(), disturbed()) for row in rows]
     for desk in made:
         for job in desk.in_use[::-1]:
             desk.finish(job)

@@ -53,7 +53,8 @@ class Altered(Seeded):
         rng, table = self.rng, self.desk.table
         k = rng.randrange(table_model.slot_count(table))
         old = table_model.slot(table, rng.randrange(table_model.slot_count(table)))
-        self.desk.table = table_model.with_slot(table, k, rng.choice([old, bytes(192), loose(rng, resident(rng)), free(rng), flipped(old, rng.randrange(192 * 8))]))
+        new = rng.choice([old, bytes(192), loose(rng, resident(rng)), free(rng), flipped(old, rng.randrange(192 * 8))])
+        self.desk.table = table_model.with_slot(table, k, new)
 
     def alter_size(self):
         slots = max(1, min(64, table_model.slot_count(self.desk.table) + self.rng.choice([-30, -3, -1, 1, 2, 20])))

@@ -1,6 +1,8 @@
 """The stepwise model beside the book: seeded lists, restarts, refusals, and the bounds of 132 and 912 steps."""
+import hashlib
 from collections import Counter
 
+import md5_block
 import scheduler_model
 import serial_model
 from calls import Drop, End, Open, Start, Step, Told, is_refused
@@ -59,17 +61,28 @@ def seen_in(list, beside, *case):
 
 
 def lists(probe, tally):
-    seen = Counter()
+    seen, slots = Counter(), set()
     for k in range(LISTS):
         list = Seeded(k)
+        slots.add(len(list.desk.table) // 192)
         seen += seen_in(list, Beside(tally, list.desk), "of list", k)
     for kind, answers in ANSWERS.items():
         print(f"   {kind.__name__.lower():6}", ", ".join(f"{answer}: {seen[kind, answer]:,}" for answer in answers))
         for answer in answers:
             tally.same(seen[kind, answer] >= OFTEN, True, kind.__name__, "answered", answer, "came up", seen[kind, answer], "times")
+    tally.same(({1, 64} <= slots, len(slots) > 30), (True, True), "tables of 1 slot, of 64 and of many numbers between")
     for kind in ("Step", "Start", "End"):
         print(f"   jobs with marks sent back to slot 0 by {kind}: {seen[kind]:,}")
         tally.same(seen[kind] >= OFTEN, True, "a restart by", kind)
+
+
+def blocks(probe, tally):
+    """The model's MD5, block by block, is the whole one."""
+    for length in [*range(260), 4095, 4096, 4160]:
+        words, run = md5_block.FIRST, RNG.randbytes(length)
+        for k in range(md5_block.blocks(length)):
+            words = md5_block.after(words, md5_block.block(run, k))
+        tally.same(md5_block.digest(words), hashlib.md5(run).digest(), "MD5 of", length, "bytes")
 
 
 def sent_back(probe, tally):
@@ -93,8 +106,9 @@ def refusals(probe, tally):
     for asked, table, store, answer in [
         (Step(3, short), bad, room, 1), (Step(3, short), None, room, 4), (Step(3, BUFFER), None, room, 5), (Step(3, BUFFER), None, None, 7),
         (Step(4, BUFFER), None, None, 7), (Step(2**32 - 1, BUFFER), None, None, 7), (Drop(3), None, None, 7), (Drop(4), None, None, 7),
-        (Open(b"", 0), None, room, 5), (Start(fits | {"user": b""}), bad, None, 1), (Start(ANN | {"user": b""}), None, None, 8), (Start(ANN), None, None, 9),
-        (Start(fits), full(RNG, 5), None, 10), (End(5), bad, None, 1), (End(5), None, None, 11), (End(0), None, None, 11), (End(2**32 - 1), None, None, 11),
+        (Open(b"", 0), None, room, 5), (Start(fits | {"user": b""}), bad, None, 1), (Start(ANN | {"user": b""}), None, None, 8),
+        (Start(ANN), None, None, 9), (Start(fits), full(RNG, 5), None, 10), (End(5), bad, None, 1), (End(5), None, None, 11),
+        (End(0), None, None, 11), (End(2**32 - 1), None, None, 11),
     ]:
         before = desk.scheduler
         told = desk.call(asked, table, store)
@@ -158,6 +172,7 @@ def worst(probe, tally):
 
 
 GROUPS = [
+    ("desk model: MD5 by blocks", blocks),
     ("desk model: seeded lists beside the book", lists),
     ("desk model: who is sent back to slot 0", sent_back),
     ("desk model: refusals", refusals),

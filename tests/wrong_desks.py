@@ -10,8 +10,7 @@ from altered_lists import stage
 from calls import GOING, PART, Drop, End, Open, Start, Step, Told
 from scheduler_model import CHECK, HASH, MATCH, After, Job, Moved
 
-OURS = {name: getattr(model, name) for name in (
-    "hashed", "same_form", "same_sense", "read_again", "is_signed", "checked", "matched", "committed", "moved", "restarted", "part", "stepped", "opened", "call")}
+OURS = {name: getattr(model, name) for name in ("hashed", "same_sense", "matched", "committed", "moved", "restarted", "part", "opened", "call")}
 
 
 def whole(job, p, gate):
@@ -123,17 +122,21 @@ def restarts_also(when):
 
 
 def takes_the_highest(scheduler, table, store, asked):
-    turned = scheduler._replace(jobs=scheduler.jobs[::-1])
-    parts = [model.part(store, k) for k in range(4)]
-    after = OURS["opened"](turned, table, b"".join(parts[::-1]), asked)
-    back = b"".join([OURS["part"](after.store, k) for k in range(4)][::-1])
-    return After(after.scheduler._replace(jobs=after.scheduler.jobs[::-1]), after.told._replace(count=3 - after.told.count) if after.told.answer == 0 else after.told, table, back)
+    """Works on the desk and the store with their jobs turned about."""
+    def about(scheduler, store):
+        return scheduler._replace(jobs=scheduler.jobs[::-1]), b"".join(OURS["part"](store, k) for k in (3, 2, 1, 0))
+    turned, parts = about(scheduler, store)
+    after = OURS["opened"](turned, table, parts, asked)
+    told = after.told._replace(count=3 - after.told.count) if after.told.answer == 0 else after.told
+    turned, parts = about(after.scheduler, after.store)
+    return After(turned, told, table, parts)
 
 
 def copies_padding(scheduler, table, store, asked):
     after = OURS["opened"](scheduler, table, store, asked)
     at = PART * after.told.count
-    return after._replace(store=store[:at] + asked.packet[:PART] + store[at + len(asked.packet[:PART]):]) if after.told.answer == 0 else after
+    more = store[:at] + asked.packet[:PART] + store[at + len(asked.packet[:PART]):]
+    return after._replace(store=more) if after.told.answer == 0 else after
 
 
 def forgets_the_clock(scheduler, table, store, asked):
