@@ -10,7 +10,7 @@ from desk import BUFFER, STALE, Desk
 from packets import CLOCK, COA, GATE, STAMP, TIMEOUT, USER, attribute, request
 from altered_desks import ANN, OTHER, SPARE, TABLE, at_check, at_slot, disturbed, people
 from scheduler_lists import Seeded
-from scheduler_model import CHECK, HASH, MATCH, Job
+from scheduler_model import CHECK, HASH, MATCH, After, Job
 from table_samples import full, seeded, session
 
 LISTS, LENGTH = 100, 300
@@ -22,6 +22,7 @@ ANSWERS = {
     Start: [0, 1, 8, 9, 10],
     End: [0, 1, 11],
 }
+MADE = [(b"", b"", 2), (bytes(65), b"n", 2), (b"s", b"", 3), (bytes(64), bytes(33), 3), (b"s", b"n", 0), (bytes(64), bytes(32), 0)]  # secret, name, answer
 RNG = seeded("scheduler cases")
 
 
@@ -98,28 +99,34 @@ def sent_back(probe, tally):
         tally.same([(job.kind, job.place) for job in desk.jobs[1:]], [(CHECK, 0), (HASH, 1), (0, 0)], "jobs in Check and Hash after", name)
 
 
-def refusals(probe, tally):
-    """The lowest number that applies; nothing is changed."""
+def refused():
+    """A desk that refused one call after the other, and what it must have answered."""
     desk = at_slot(COA, 5)
     short, bad, room = BUFFER[:4095], TABLE[:-1], STALE[:-1]
     fits = session(RNG, id=b"new")
-    for asked, table, store, answer in [
+    rows = [
         (Step(3, short), bad, room, 1), (Step(3, short), None, room, 4), (Step(3, BUFFER), None, room, 5), (Step(3, BUFFER), None, None, 7),
         (Step(4, BUFFER), None, None, 7), (Step(2**32 - 1, BUFFER), None, None, 7), (Drop(3), None, None, 7), (Drop(4), None, None, 7),
         (Open(b"", 0), None, room, 5), (Start(fits | {"user": b""}), bad, None, 1), (Start(ANN | {"user": b""}), None, None, 8),
         (Start(ANN), None, None, 9), (Start(fits), full(RNG, 5), None, 10), (End(5), bad, None, 1), (End(5), None, None, 11),
         (End(0), None, None, 11), (End(2**32 - 1), None, None, 11),
-    ]:
-        before = desk.scheduler
-        told = desk.call(asked, table, store)
-        turn = desk.turns[-1]
-        left = turn.after.scheduler, turn.after.table, turn.after.store, turn.after.reply
-        tally.same((told, *left), (Told(answer), before, turn.table, turn.store, getattr(asked, "reply", None)), asked[:1], answer)
+    ]
+    for asked, table, store, _ in rows:
+        desk.call(asked, table, store)
+    return desk, [answer for *_, answer in rows]
+
+
+def refusals(probe, tally):
+    """The lowest number that applies; nothing is changed."""
+    desk, answers = refused()
+    for turn, answer in zip(desk.turns[-len(answers):], answers):
+        same = After(desk.scheduler, Told(answer), turn.table, turn.store, getattr(turn.asked, "reply", None))
+        tally.same(turn.after, same, type(turn.asked).__name__, answer)
     desk.open(OTHER, CLOCK), desk.open(OTHER, CLOCK)
     tally.same(desk.open(b"", 0), Told(6), "R6 before D1")
     desk.drop(2)
     tally.same((desk.open(b"", 0), desk.open(OTHER, CLOCK)), (Told(101), Told(0, 2)), "a discard takes no job, the next opening the lowest")
-    for secret, name, answer in [(b"", b"", 2), (bytes(65), b"n", 2), (b"s", b"", 3), (bytes(64), bytes(33), 3), (b"s", b"n", 0), (bytes(64), bytes(32), 0)]:
+    for secret, name, answer in MADE:
         tally.same(scheduler_model.make(secret, 7, name)[0], answer, "make with", len(secret), len(name))
 
 
@@ -155,18 +162,22 @@ def alone(probe, tally):
     tally.same([kinds.count(kind) for kind in (HASH, CHECK, MATCH, 0)], [65, 1, 65, 1], "steps that leave it in Hash, Check, Match, free")
 
 
-def worst(probe, tally):
-    """Four jobs, all brought to Commit before each commit: 912 steps, none less."""
-    desk, steps = crowded(4), 0
+def longest():
+    """Four jobs, all brought to Commit before each commit."""
+    desk = crowded(4)
     while desk.in_use:
         for job in desk.in_use:
             while desk.jobs[job].kind != MATCH or desk.jobs[job].place < 64:
                 desk.step(job)
-                steps += 1
-        tally.same(desk.step(desk.in_use[-1]).answer, 0, "a commit")
-        steps += 1
-    tally.same(steps, 912, "steps of four jobs")
-    beside = Beside(tally, crowded(0))
+        desk.step(desk.in_use[-1])
+    return desk
+
+
+def worst(probe, tally):
+    """No list of steps is longer: 912."""
+    desk, beside = longest(), Beside(tally, crowded(0))
+    steps = [turn.after.told.answer for turn in desk.turns if isinstance(turn.asked, Step)]
+    tally.same((len(steps), steps.count(0), steps.count(600)), (912, 4, 908), "steps of four jobs, and how they were answered")
     for turn in desk.turns:
         beside.same(turn, "of the longest list")
 
