@@ -20,6 +20,7 @@ import reread_cases
 import runner
 import scheduler_cases
 import scheduler_self_cases
+import scheduling_cases
 import self_cases
 import signature_cases
 import stamp_cases
@@ -60,6 +61,7 @@ MODULES = [
     handle_session_cases,
     handle_reply_cases,
     handle_random_cases,
+    scheduling_cases,
     c_cases,
     stored_cases,
 ]
