@@ -21,12 +21,12 @@
  *    writable, where `x` is not `const`). A length may have any value: what
  *    does not fit is refused by a number. `NULL` is allowed for a buffer
  *    exactly where its length is 0. Pointers to numbers (`uint32_t *`,
- *    `int64_t *`) are aligned and never `NULL`.
+ *    `int64_t *`) and to a scheduler are aligned and never `NULL`.
  *
  *  - **Threads.** Calls from several threads at once are safe where nothing
- *    that one of them writes is given to another: a table, a reply buffer and
- *    an output for each thread. What is only read may be shared: secret, name,
- *    packet, attributes.
+ *    that one of them writes is given to another: a table, a reply buffer, an
+ *    output, a scheduler and a packet store for each thread. What is only read
+ *    may be shared: secret, name, packet, attributes.
  *
  *  - **Numbers in packet and table** have their high byte first. The
  *    parameters of this header are numbers of the machine.
@@ -44,8 +44,7 @@
  *   | 101 to 106 | the packet is to be discarded silently, see below     |
  *   | 201 to 206 | the reply is not right, see below                     |
  *   | 401 to 599 | not acknowledged (NAK), with this Error-Cause         |
- *
- * 600 is kept for later calls.
+ *   | 600        | fbk_step(): the job is not finished                   |
  *
  * ## The session table
  *
@@ -66,6 +65,34 @@
  *
  * A slot is live exactly if mark and four lengths are as above; any other
  * content is a free slot. So a table of zeros is empty.
+ *
+ * ## The scheduler
+ *
+ * fbk_handle() works on a request from its first byte to its reply. Where
+ * that takes too long at once, a scheduler keeps up to FBK_JOBS requests in
+ * work and does each of them in small steps: fbk_make() makes it, fbk_open()
+ * takes a packet, and fbk_step() is called for that job until its answer is
+ * not 600. A step is one of
+ *
+ *  - one 64-byte block of the request authenticator's MD5, at most 66 of them;
+ *  - all of 104 to 106 and of 401 to 506, once;
+ *  - one slot of the table, looked at for a match;
+ *  - 503, or the changes and the ACK, once.
+ *
+ * Jobs may be stepped in any order, and sessions started and ended in between
+ * by fbk_start() and fbk_end(). The answers, the replies and the table are
+ * those of handling each request whole at the step that finished it. So an
+ * ACK, a start and an end send all other jobs that look for matches back to
+ * slot 0. A lone job is finished by its 132nd step, all open jobs by the
+ * 912th, where nothing is opened, started, ended or dropped in between.
+ *
+ * **No outside writes.** All this holds as long as table and packet store are
+ * written to by calls on this scheduler alone, and are the same ones in all
+ * of them. fbk_handle(), or any write of the caller's, on a table that a
+ * scheduler with open jobs works on is an outside write, and so is any write
+ * to the store. Answers stay safe then: each job goes on with what it finds,
+ * or is discarded by 101. But they are no longer those of handling each
+ * request whole.
  */
 
 #ifndef FUMBOKERI_H__
@@ -89,6 +116,12 @@ extern "C" {
 
 /** \brief Bytes that an output for a request has at least. */
 #define FBK_REQUEST_SIZE   4096
+
+/** \brief Requests that a scheduler may have in work at once. */
+#define FBK_JOBS   4
+
+/** \brief Bytes of a packet store: 4,096 for each job. */
+#define FBK_STORE_SIZE   16384
 
 /**
  * \brief Handle one request.
@@ -272,6 +305,297 @@ uint32_t fbk_write(uint32_t code, uint8_t identifier,
 uint32_t fbk_check_reply(const uint8_t *secret, size_t secret_len,
 	const uint8_t *request, size_t request_len,
 	const uint8_t *reply, size_t reply_len);
+
+/**
+ * \brief A request in work, inside of fbk_scheduler.
+ */
+typedef struct fbk_job {
+	uint32_t words[4];
+	uint8_t marks[FBK_SLOTS_MAX];
+	size_t place;
+	size_t length;
+	uint32_t clock;
+	uint32_t kind;
+} fbk_job;
+
+/**
+ * \brief A scheduler: up to FBK_JOBS requests in work.
+ *
+ * Made by fbk_make() and given to each call; it may be copied and moved, as it
+ * holds no pointers. Its fields are the library's: to be neither read nor
+ * written. It holds a copy of the secret.
+ */
+typedef struct fbk_scheduler {
+	fbk_job jobs[FBK_JOBS];
+	uint8_t secret[64];
+	uint8_t name[32];
+	size_t secret_size;
+	size_t name_size;
+	uint32_t address;
+} fbk_scheduler;
+
+/*
+ * Not to be called directly: what fbk_make() to fbk_end() call. A scheduler
+ * goes in and comes back by value, and the numbers beside it.
+ */
+typedef struct fbk_report {
+	int64_t skew;
+	size_t count;
+	size_t size;
+	uint32_t answer;
+	uint32_t stamped;
+} fbk_report;
+
+typedef struct fbk_called {
+	fbk_scheduler scheduler;
+	fbk_report report;
+} fbk_called;
+
+fbk_called fbk_make_by_value(const uint8_t *secret, size_t secret_len,
+	uint32_t nas_ip, const uint8_t *nas_id, size_t nas_id_len);
+
+fbk_called fbk_open_by_value(fbk_scheduler s,
+	const uint8_t *packet, size_t packet_len, uint32_t clock,
+	uint8_t *store, size_t store_len);
+
+fbk_called fbk_step_by_value(fbk_scheduler s, uint32_t job,
+	uint8_t *table, size_t table_len, uint8_t *reply, size_t reply_size,
+	const uint8_t *store, size_t store_len);
+
+fbk_called fbk_drop_by_value(fbk_scheduler s, uint32_t job);
+
+fbk_called fbk_start_by_value(fbk_scheduler s,
+	uint8_t *table, size_t table_len, uint32_t nas_port, uint32_t framed_ip,
+	uint32_t session_timeout, uint32_t idle_timeout,
+	const uint8_t *user_name, size_t user_name_len,
+	const uint8_t *acct_session_id, size_t acct_session_id_len,
+	const uint8_t *calling_station_id, size_t calling_station_id_len,
+	const uint8_t *filter_id, size_t filter_id_len);
+
+fbk_called fbk_end_by_value(fbk_scheduler s,
+	uint8_t *table, size_t table_len, uint32_t slot);
+
+static inline int fbk_is_refusal(uint32_t answer)
+{
+	return answer >= 1 && answer <= 99;
+}
+
+/* Takes the scheduler as it is after a call, unless that was refused. */
+static inline uint32_t fbk_keep(fbk_scheduler *s, const fbk_called *c)
+{
+	if (!fbk_is_refusal(c->report.answer))
+		*s = c->scheduler;
+	return c->report.answer;
+}
+
+/**
+ * \brief Make a scheduler with no request in work.
+ *
+ * Secret and identity are copied, and hold for all its requests.
+ *
+ *   |   | refused: nothing at all is written                             |
+ *   |---|----------------------------------------------------------------|
+ *   | 2 | `secret_len` is not 1 to 64                                    |
+ *   | 3 | `nas_id_len` is not 1 to 32                                    |
+ *
+ * \param s            receives the scheduler; need not be initialised.
+ * \param secret       secret shared with the senders.
+ * \param secret_len   its length in bytes, 1 to 64.
+ * \param nas_ip       own NAS-IP-Address, its first byte highest.
+ * \param nas_id       own NAS-Identifier.
+ * \param nas_id_len   its length in bytes, 1 to 32.
+ *
+ * \return  0 where it is made, else the number of the refusal.
+ */
+static inline uint32_t fbk_make(fbk_scheduler *s,
+	const uint8_t *secret, size_t secret_len,
+	uint32_t nas_ip, const uint8_t *nas_id, size_t nas_id_len)
+{
+	fbk_called c = fbk_make_by_value(secret, secret_len,
+		nas_ip, nas_id, nas_id_len);
+	return fbk_keep(s, &c);
+}
+
+/**
+ * \brief Open a job: take a packet into work.
+ *
+ * The lowest free job takes it. Its bytes up to Length are copied to the front
+ * of the job's part of the store, and no other byte of the store is written,
+ * so `packet` is not needed any longer. A packet that is discarded uses no job.
+ *
+ *   |     | refused: nothing at all is written                           |
+ *   |-----|--------------------------------------------------------------|
+ *   | 5   | `store_len` is not `FBK_STORE_SIZE`                          |
+ *   | 6   | no job is free                                               |
+ *
+ *   |     | discarded: nothing at all is written                         |
+ *   |-----|--------------------------------------------------------------|
+ *   | 101 | under 20 bytes; Length below 20, above 4,096 or `packet_len` |
+ *   | 102 | code not 40 (Disconnect-Request) or 43 (CoA-Request)         |
+ *   | 103 | the attributes do not fill Length, or one has length 0 or 1  |
+ *
+ * \param s            scheduler.
+ * \param packet       packet as it was received, not altered.
+ * \param packet_len   bytes received; those after the packet's Length are
+ *                     ignored.
+ * \param clock        time now, in seconds as Event-Timestamp counts them.
+ * \param store        packet store, the same one in all calls; its content
+ *                     before the first does not matter.
+ * \param store_len    its length in bytes, `FBK_STORE_SIZE`.
+ * \param job          receives the job's number, 0 to 3; written only where
+ *                     the answer is 0.
+ *
+ * \return  0 where the packet is in work, else one of the numbers above.
+ */
+static inline uint32_t fbk_open(fbk_scheduler *s,
+	const uint8_t *packet, size_t packet_len, uint32_t clock,
+	uint8_t *store, size_t store_len, uint32_t *job)
+{
+	fbk_called c = fbk_open_by_value(*s, packet, packet_len, clock,
+		store, store_len);
+	if (c.report.answer == 0)
+		*job = (uint32_t)c.report.count;
+	return fbk_keep(s, &c);
+}
+
+/**
+ * \brief Do one step of a job.
+ *
+ * Where the answer is 600, the job goes on: table, reply and store are as they
+ * were. Any other answer that is no refusal is that of fbk_handle() for the
+ * packet and the clock of its opening, with the table as it is now, and the
+ * job is free again.
+ *
+ *   |   | refused: nothing at all is written                             |
+ *   |---|----------------------------------------------------------------|
+ *   | 1 | `table_len` is not `FBK_SLOT_SIZE` times 1 to `FBK_SLOTS_MAX`  |
+ *   | 4 | `reply_size` is under `FBK_REPLY_SIZE`                         |
+ *   | 5 | `store_len` is not `FBK_STORE_SIZE`                            |
+ *   | 7 | no such job, or it is free                                     |
+ *
+ * \param s            scheduler.
+ * \param job          number of the job.
+ * \param table        session table; written only where the answer is 0.
+ * \param table_len    its length in bytes.
+ * \param reply        buffer for the reply; written only where the answer is
+ *                     0 or a NAK. It may be another one in each step.
+ * \param reply_size   room in it, in bytes, `FBK_REPLY_SIZE` or more.
+ * \param store        packet store.
+ * \param store_len    its length in bytes, `FBK_STORE_SIZE`.
+ * \param changed      these four are as in fbk_handle(); 0 where the answer is
+ *                     600.
+ * \param reply_len    length of the reply.
+ * \param skew         time in the packet minus the clock of its opening.
+ * \param stamped      1, or 0 where no stamp is usable.
+ *
+ * A refusal leaves `*changed`, `*reply_len`, `*skew` and `*stamped` unchanged;
+ * any other answer writes all four.
+ *
+ * \return  the answer: 600, one of the refusals above, or as fbk_handle().
+ */
+static inline uint32_t fbk_step(fbk_scheduler *s, uint32_t job,
+	uint8_t *table, size_t table_len, uint8_t *reply, size_t reply_size,
+	const uint8_t *store, size_t store_len,
+	uint32_t *changed, uint32_t *reply_len,
+	int64_t *skew, uint32_t *stamped)
+{
+	fbk_called c = fbk_step_by_value(*s, job, table, table_len,
+		reply, reply_size, store, store_len);
+	if (!fbk_is_refusal(c.report.answer)) {
+		*changed = (uint32_t)c.report.count;
+		*reply_len = (uint32_t)c.report.size;
+		*skew = c.report.skew;
+		*stamped = c.report.stamped;
+	}
+	return fbk_keep(s, &c);
+}
+
+/**
+ * \brief Drop a job: it is free again, and nothing else is changed.
+ *
+ * \param s     scheduler.
+ * \param job   number of the job.
+ *
+ * \return  0 where it is dropped; 7 where there is no such job or it is free:
+ *          nothing is written.
+ */
+static inline uint32_t fbk_drop(fbk_scheduler *s, uint32_t job)
+{
+	fbk_called c = fbk_drop_by_value(*s, job);
+	return fbk_keep(s, &c);
+}
+
+/**
+ * \brief Start a session.
+ *
+ * All bytes of the lowest free slot are written.
+ *
+ *   |    | refused: nothing at all is written                            |
+ *   |----|---------------------------------------------------------------|
+ *   | 1  | `table_len` is not `FBK_SLOT_SIZE` times 1 to `FBK_SLOTS_MAX` |
+ *   | 8  | a text's length is outside of its limits                      |
+ *   | 9  | a live session has this Acct-Session-Id                       |
+ *   | 10 | no slot is free                                               |
+ *
+ * \param s                        scheduler that works on this table.
+ * \param table                    session table.
+ * \param table_len                its length in bytes.
+ * \param nas_port                 NAS-Port.
+ * \param framed_ip                Framed-IP-Address, its first byte highest.
+ * \param session_timeout          Session-Timeout, in seconds.
+ * \param idle_timeout             Idle-Timeout, in seconds.
+ * \param user_name                User-Name.
+ * \param user_name_len            its length in bytes, 1 to 63.
+ * \param acct_session_id          Acct-Session-Id.
+ * \param acct_session_id_len      its length in bytes, 1 to 32.
+ * \param calling_station_id       Calling-Station-Id.
+ * \param calling_station_id_len   its length in bytes, 0 to 32.
+ * \param filter_id                Filter-Id.
+ * \param filter_id_len            its length in bytes, 0 to 32.
+ * \param slot                     receives the slot's number; written only
+ *                                 where the answer is 0.
+ *
+ * \return  0 where the session is started, else the number of the refusal.
+ */
+static inline uint32_t fbk_start(fbk_scheduler *s,
+	uint8_t *table, size_t table_len, uint32_t nas_port, uint32_t framed_ip,
+	uint32_t session_timeout, uint32_t idle_timeout,
+	const uint8_t *user_name, size_t user_name_len,
+	const uint8_t *acct_session_id, size_t acct_session_id_len,
+	const uint8_t *calling_station_id, size_t calling_station_id_len,
+	const uint8_t *filter_id, size_t filter_id_len, uint32_t *slot)
+{
+	fbk_called c = fbk_start_by_value(*s, table, table_len,
+		nas_port, framed_ip, session_timeout, idle_timeout,
+		user_name, user_name_len, acct_session_id, acct_session_id_len,
+		calling_station_id, calling_station_id_len,
+		filter_id, filter_id_len);
+	if (c.report.answer == 0)
+		*slot = (uint32_t)c.report.count;
+	return fbk_keep(s, &c);
+}
+
+/**
+ * \brief End a session: its slot is filled with zeros.
+ *
+ *   |    | refused: nothing at all is written                            |
+ *   |----|---------------------------------------------------------------|
+ *   | 1  | `table_len` is not `FBK_SLOT_SIZE` times 1 to `FBK_SLOTS_MAX` |
+ *   | 11 | no such slot, or no live session in it                        |
+ *
+ * \param s           scheduler that works on this table.
+ * \param table       session table.
+ * \param table_len   its length in bytes.
+ * \param slot        number of the slot, as fbk_start() gave it.
+ *
+ * \return  0 where the session is ended, else the number of the refusal.
+ */
+static inline uint32_t fbk_end(fbk_scheduler *s,
+	uint8_t *table, size_t table_len, uint32_t slot)
+{
+	fbk_called c = fbk_end_by_value(*s, table, table_len, slot);
+	return fbk_keep(s, &c);
+}
 
 #ifdef __cplusplus
 }

@@ -3,6 +3,7 @@ import re
 import shutil
 import subprocess
 
+import header_desk
 import sample_requests
 from sample_requests import PLACE
 
@@ -49,6 +50,18 @@ def run_of(text, name):
     return bytes.fromhex(found(text, rf"^  {name:8}((?:[ \n]+[0-9a-f]{{2}})+)$") or "")
 
 
+def desk(probe, tally):
+    wanted = list(header_desk.lines())
+    for language in LANGUAGES:
+        if shutil.which(language[0]) is None:
+            print(f"   not tried: {language[0]} is not installed")
+            continue
+        printed = ran(language, ["tests/header_desk.c"]).splitlines()
+        for got, line in zip(printed + [""] * len(wanted), wanted):
+            tally.same(got, line, *language)
+        tally.same(len(printed), len(wanted), "lines,", *language)
+
+
 def sample(probe, tally):
     """The sample gate prints what is stored, and that is what the second implementation answers."""
     stored = (ROOT / "samples" / "rooms.stdout").read_text()
@@ -69,7 +82,7 @@ def archive(probe, tally):
     tally.same([name for name, kind in symbols if kind == "U" and name not in OF_C], [], "what the archive calls")
     tally.same([name for name, kind in symbols if kind in "BbDdCcSsGg"], [], "what the archive keeps")
     offered = {name for name, kind in symbols if kind == "T"}
-    declared = set(re.findall(r"^[a-z].* \*?(\w+)\(", (ROOT / "include" / "fumbokeri.h").read_text(), re.M))
+    declared = set(re.findall(r"^(?!static )[a-z].* \*?(\w+)\(", (ROOT / "include" / "fumbokeri.h").read_text(), re.M))
     tally.same(declared - offered, set(), "declared, and not in the archive")
     tally.same({name for name in offered if not name.startswith("fbk_")}, set(), "names that are not the library's")
     tally.same(declared >= {"fbk_handle", "fbk_write", "fbk_check_reply"}, True, "all three are declared")
@@ -77,6 +90,7 @@ def archive(probe, tally):
 
 GROUPS = [
     ("C: NULL where a length is 0, in C and C++", nulls),
+    ("C: the scheduler's pointer forms, in C and C++", desk),
     ("C: the sample gate", sample),
     ("C: the archive keeps nothing and allocates nothing", archive),
 ]

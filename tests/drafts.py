@@ -45,16 +45,22 @@ class Draft:
     def __init__(self, rng):
         self.rng = rng
         self.code, self.identifier = rng.choice(CODES), rng.randrange(256)
-        self.secret = rng.randbytes(rng.choice([1, 9, 16, 63, 64]))
-        self.address, self.name = rng.randrange(2**32), rng.randbytes(rng.choice([1, 6, 31, 32]))
-        self.reply = rng.randbytes(rng.choice([4096, 4096, 4097, 5000]))
-        self.clock = rng.choice([0, 300, CLOCK, CLOCK, LAST - 300, LAST, rng.randrange(2**32)])
-        self.table, mine = rng.choice(HOUSES)
+        mine = self.surroundings()
         self.parts = self.criteria(mine) + (self.changes() if self.code == COA else []) + self.others()
         self.stamps = [stamp(self.near(rng.choice([0, 0, 1, -1, 300, -300, rng.randint(-300, 300)])))]
         self.tail = b""  # attributes that do not tile
         self.damage = []  # what is done to the signed packet
         self.padding = rng.randbytes(rng.choice([0, 0, 0, 1, 40, 5000]))
+
+    def surroundings(self):
+        """Draws the gate, reply buffer, clock and table; returns a session that is in the table."""
+        rng = self.rng
+        self.secret = rng.randbytes(rng.choice([1, 9, 16, 63, 64]))
+        self.address, self.name = rng.randrange(2**32), rng.randbytes(rng.choice([1, 6, 31, 32]))
+        self.reply = rng.randbytes(rng.choice([4096, 4096, 4097, 5000]))
+        self.clock = rng.choice([0, 300, CLOCK, CLOCK, LAST - 300, LAST, rng.randrange(2**32)])
+        self.table, mine = rng.choice(HOUSES)
+        return mine
 
     def near(self, off):
         """A stamp this far from the clock, or as far on the other side where there is none."""

@@ -74,6 +74,16 @@ def bad_mac(p, n, auth, secret):
     return any(a.value != message_authenticator(p, n, auth, a.place, secret) for a in macs)
 
 
+def no_stamp(found):
+    """Type 55 is not there exactly once with length 6."""
+    return [len(a.value) for a in found if a.kind == 55] != [4]
+
+
+def stamp(found):
+    """The time in the one type 55."""
+    return next(int.from_bytes(a.value, "big") for a in found if a.kind == 55)
+
+
 def cause(code, found, gate):
     """1 to 6, first that applies; 0 where none does."""
     kinds = [a.kind for a in found]
@@ -93,19 +103,23 @@ def cause(code, found, gate):
     return 506 if any(a.kind == 11 and len(a.value) > 32 for a in found) else 0
 
 
+def judged(p, signed, gate, clock):
+    """Of a packet that D1 to D3 pass, D4 to D6 and causes 1 to 6: as verdict. signed: whether the authenticator is right."""
+    if not signed:
+        return 104, None
+    n = length_of(p)
+    if bad_mac(p, n, ZEROS, gate.secret):
+        return 105, None
+    found = attributes(p, n)
+    if no_stamp(found):
+        return 106, None
+    skew = stamp(found) - clock
+    return 106 if abs(skew) > 300 else cause(p[0], found, gate), skew
+
+
 def verdict(p, gate, clock):
     """0 passed, 100 + n discarded by Dn, else the cause; and the skew, None where no stamp is usable."""
     form = bad_form(p)
     if form:
         return 100 + form, None
-    n = length_of(p)
-    if p[4:20] != authenticator(p, n, ZEROS, gate.secret):
-        return 104, None
-    if bad_mac(p, n, ZEROS, gate.secret):
-        return 105, None
-    found = attributes(p, n)
-    stamps = [a.value for a in found if a.kind == 55]
-    if len(stamps) != 1 or len(stamps[0]) != 4:
-        return 106, None
-    skew = int.from_bytes(stamps[0], "big") - clock
-    return 106 if abs(skew) > 300 else cause(p[0], found, gate), skew
+    return judged(p, p[4:20] == authenticator(p, length_of(p), ZEROS, gate.secret), gate, clock)

@@ -59,7 +59,7 @@ def found(libraries, name):
 
 class Probe:
     def __init__(self, paths):
-        libraries = [ctypes.CDLL(path) for path in paths]
+        self.libraries = libraries = [ctypes.CDLL(path) for path in paths]
         self.functions = {}
         for name, words in SIGNATURES.items():
             function = found(libraries, ("fbk_" if name in PRODUCT else "probe_") + name)

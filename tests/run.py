@@ -20,7 +20,11 @@ import random_cases
 import refusal_cases
 import reply_check_cases
 import request_writer_cases
+import reread_cases
 import runner
+import scheduler_cases
+import scheduler_self_cases
+import scheduling_cases
 import self_cases
 import self_check_cases
 import self_write_cases
@@ -40,6 +44,9 @@ MODULES = [
     self_cases,
     self_write_cases,
     self_check_cases,
+    scheduler_self_cases,
+    scheduler_cases,
+    reread_cases,
     md5_cases,
     hmac_cases,
     refusal_cases,
@@ -66,6 +73,7 @@ MODULES = [
     reply_check_cases,
     exchange_random_cases,
     exchange_handler_cases,
+    scheduling_cases,
     c_cases,
     stored_cases,
 ]

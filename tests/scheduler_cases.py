@@ -1,0 +1,193 @@
+"""The stepwise model beside the book: seeded lists, restarts, refusals, and the bounds of 132 and 912 steps."""
+import hashlib
+from collections import Counter
+
+import md5_block
+import scheduler_model
+import serial_model
+from calls import Drop, End, Open, Start, Step, Told, is_refused
+from desk import BUFFER, STALE, Desk
+from packets import CLOCK, COA, GATE, STAMP, TIMEOUT, USER, attribute, request
+from altered_desks import ANN, OTHER, SPARE, TABLE, at_check, at_slot, disturbed, people
+from scheduler_lists import Seeded
+from scheduler_model import CHECK, HASH, MATCH, After, Job
+from table_samples import full, seeded, session
+
+LISTS, LENGTH = 100, 300
+OFTEN = 5  # each of these comes up so often at least
+ANSWERS = {
+    Open: [0, 5, 6, 101, 102, 103],
+    Step: [0, 1, 4, 5, 7, 104, 105, 106, 401, 402, 403, 404, 405, 503, 506, 600],
+    Drop: [0, 7],
+    Start: [0, 1, 8, 9, 10],
+    End: [0, 1, 11],
+}
+MADE = [(b"", b"", 2), (bytes(65), b"n", 2), (b"s", b"", 3), (bytes(64), bytes(33), 3), (b"s", b"n", 0), (bytes(64), bytes(32), 0)]  # secret, name, answer
+RNG = seeded("scheduler cases")
+
+
+class Beside:
+    """The book beside a list: told only what document 01 lets it know."""
+
+    def __init__(self, tally, desk):
+        self.tally, self.book = tally, serial_model.begun(desk.gate, desk.table)
+
+    def same(self, turn, *case):
+        """One test: answer, table and reply buffer are the book's after this call."""
+        after = turn.after
+        finished = isinstance(turn.asked, Step) and not is_refused(after.told) and after.told.answer != 600
+        self.book, told, reply = serial_model.call(self.book, turn.asked, len(turn.store), finished)
+        self.tally.same((after.told, after.table, after.reply), (told, self.book.table, reply), type(turn.asked).__name__, *case)
+
+    def same_jobs(self, desk, *case):
+        self.tally.same(desk.in_use, serial_model.noted(self.book), "open jobs", *case)
+
+
+def restarts(before, turn):
+    """Which jobs that had marks this call sent back to slot 0, and by what."""
+    sent = [k for k, (old, new) in enumerate(zip(before.jobs, turn.after.scheduler.jobs)) if any(old.marks) and new.kind == MATCH and new.place == 0]
+    return [type(turn.asked).__name__] * len(sent)
+
+
+def seen_in(list, beside, *case):
+    """What came up in a list that is run beside the book."""
+    seen, before = Counter(), list.desk.scheduler
+    for k, turn in enumerate(list.turns(LENGTH)):
+        beside.same(turn, "call", k, *case)
+        seen[type(turn.asked), turn.after.told.answer] += 1
+        seen.update(restarts(before, turn))
+        before = turn.after.scheduler
+    beside.same_jobs(list.desk, *case)
+    return seen
+
+
+def lists(probe, tally):
+    seen, slots = Counter(), set()
+    for k in range(LISTS):
+        list = Seeded(k)
+        slots.add(len(list.desk.table) // 192)
+        seen += seen_in(list, Beside(tally, list.desk), "of list", k)
+    for kind, answers in ANSWERS.items():
+        print(f"   {kind.__name__.lower():6}", ", ".join(f"{answer}: {seen[kind, answer]:,}" for answer in answers))
+        for answer in answers:
+            tally.same(seen[kind, answer] >= OFTEN, True, kind.__name__, "answered", answer, "came up", seen[kind, answer], "times")
+    tally.same(({1, 64} <= slots, len(slots) > 30), (True, True), "tables of 1 slot, of 64 and of many numbers between")
+    for kind in ("Step", "Start", "End"):
+        print(f"   jobs with marks sent back to slot 0 by {kind}: {seen[kind]:,}")
+        tally.same(seen[kind] >= OFTEN, True, "a restart by", kind)
+
+
+def blocks(probe, tally):
+    """The model's MD5, block by block, is the whole one."""
+    for length in [*range(260), 4095, 4096, 4160]:
+        words, run = md5_block.FIRST, RNG.randbytes(length)
+        for k in range(md5_block.blocks(length)):
+            words = md5_block.after(words, md5_block.block(run, k))
+        tally.same(md5_block.digest(words), hashlib.md5(run).digest(), "MD5 of", length, "bytes")
+
+
+def sent_back(probe, tally):
+    """Who sends job 1, which awaits Commit, back to slot 0, and who does not; jobs in Hash and Check keep their place."""
+    for name, desk, wanted in disturbed():
+        steps, told = desk.finish(1)
+        tally.same((steps, told.count), wanted, "job 1 after", name)
+    for name, call in [("a start", lambda d: d.start(session(RNG, id=b"new"))), ("an end", lambda d: d.end(4)), ("an ACK", lambda d: d.finish(0))]:
+        desk = at_check(COA)
+        desk.open(request(COA, [USER, TIMEOUT, STAMP, SPARE]), CLOCK)
+        desk.step(2)
+        call(desk)
+        tally.same([(job.kind, job.place) for job in desk.jobs[1:]], [(CHECK, 0), (HASH, 1), (0, 0)], "jobs in Check and Hash after", name)
+
+
+def refused():
+    """A desk that refused one call after the other, and what it must have answered."""
+    desk = at_slot(COA, 5)
+    short, bad, room = BUFFER[:4095], TABLE[:-1], STALE[:-1]
+    fits = session(RNG, id=b"new")
+    rows = [
+        (Step(3, short), bad, room, 1), (Step(3, short), None, room, 4), (Step(3, BUFFER), None, room, 5), (Step(3, BUFFER), None, None, 7),
+        (Step(4, BUFFER), None, None, 7), (Step(2**32 - 1, BUFFER), None, None, 7), (Drop(3), None, None, 7), (Drop(4), None, None, 7),
+        (Open(b"", 0), None, room, 5), (Start(fits | {"user": b""}), bad, None, 1), (Start(ANN | {"user": b""}), None, None, 8),
+        (Start(ANN), None, None, 9), (Start(fits), full(RNG, 5), None, 10), (End(5), bad, None, 1), (End(5), None, None, 11),
+        (End(0), None, None, 11), (End(2**32 - 1), None, None, 11),
+    ]
+    for asked, table, store, _ in rows:
+        desk.call(asked, table, store)
+    return desk, [answer for *_, answer in rows]
+
+
+def refusals(probe, tally):
+    """The lowest number that applies; nothing is changed."""
+    desk, answers = refused()
+    for turn, answer in zip(desk.turns[-len(answers):], answers):
+        same = After(desk.scheduler, Told(answer), turn.table, turn.store, getattr(turn.asked, "reply", None))
+        tally.same(turn.after, same, type(turn.asked).__name__, answer)
+    desk.open(OTHER, CLOCK), desk.open(OTHER, CLOCK)
+    tally.same(desk.open(b"", 0), Told(6), "R6 before D1")
+    desk.drop(2)
+    tally.same((desk.open(b"", 0), desk.open(OTHER, CLOCK)), (Told(101), Told(0, 2)), "a discard takes no job, the next opening the lowest")
+    for secret, name, answer in MADE:
+        tally.same(scheduler_model.make(secret, 7, name)[0], answer, "make with", len(secret), len(name))
+
+
+def freed(probe, tally):
+    """A job that is free again holds nothing; opening writes only the copied bytes."""
+    for name, end in [("an ACK", lambda d: d.finish(1)), ("a drop", lambda d: d.drop(1)), ("a discard", lambda d: (d.write(1, b"\0"), d.finish(1)))]:
+        desk = at_slot(COA, 5)
+        end(desk)
+        tally.same(desk.jobs[1], Job(), "after", name)
+    desk = Desk(TABLE)
+    desk.open(OTHER + b"padding", CLOCK), desk.open(OTHER, CLOCK)
+    tally.same(desk.store, OTHER + STALE[len(OTHER):4096] + OTHER + STALE[4096 + len(OTHER):], "the store after two openings")
+
+
+LONG = request(COA, [USER, TIMEOUT, STAMP] + [attribute(33, bytes(253))] * 15 + [attribute(33, bytes(232))], GATE._replace(secret=bytes(64)))
+CROWD = people("ab" * 32)
+
+
+def crowded(jobs):
+    desk = Desk(CROWD, GATE._replace(secret=bytes(64)))
+    for _ in range(jobs):
+        desk.open(LONG, CLOCK)
+    return desk
+
+
+def alone(probe, tally):
+    """A lone job: 66 blocks, the check, 64 slots, the commit."""
+    tally.same(len(LONG), 4096, "its Length")
+    desk = crowded(1)
+    steps, told = desk.finish(0)
+    tally.same((steps, told.answer, told.count, told.size), (132, 0, 32, 4096 - 17), "a lone job")
+    kinds = [turn.after.scheduler.jobs[0].kind for turn in desk.turns[1:]]
+    tally.same([kinds.count(kind) for kind in (HASH, CHECK, MATCH, 0)], [65, 1, 65, 1], "steps that leave it in Hash, Check, Match, free")
+
+
+def longest():
+    """Four jobs, all brought to Commit before each commit."""
+    desk = crowded(4)
+    while desk.in_use:
+        for job in desk.in_use:
+            while desk.jobs[job].kind != MATCH or desk.jobs[job].place < 64:
+                desk.step(job)
+        desk.step(desk.in_use[-1])
+    return desk
+
+
+def worst(probe, tally):
+    """No list of steps is longer: 912."""
+    desk, beside = longest(), Beside(tally, crowded(0))
+    steps = [turn.after.told.answer for turn in desk.turns if isinstance(turn.asked, Step)]
+    tally.same((len(steps), steps.count(0), steps.count(600)), (912, 4, 908), "steps of four jobs, and how they were answered")
+    for turn in desk.turns:
+        beside.same(turn, "of the longest list")
+
+
+GROUPS = [
+    ("desk model: MD5 by blocks", blocks),
+    ("desk model: seeded lists beside the book", lists),
+    ("desk model: who is sent back to slot 0", sent_back),
+    ("desk model: refusals", refusals),
+    ("desk model: freed jobs and copied bytes", freed),
+    ("desk model: a lone job's 132 steps", alone),
+    ("desk model: 912 steps at worst", worst),
+]
