@@ -29,6 +29,18 @@ enum { KEPT = 77, REQUESTS = sizeof requests / sizeof requests[0] };
 static fbk_scheduler s, before;
 static const uint8_t long_name[33] = {1};
 static uint8_t table[3 * FBK_SLOT_SIZE], reply[FBK_REPLY_SIZE], store[FBK_STORE_SIZE];
+static uint8_t packets[REQUESTS][FBK_REQUEST_SIZE];
+static uint32_t lengths[REQUESTS];
+
+/* The sample requests as they come to the gate. */
+static void write_packets(void)
+{
+    for (size_t i = 0; i < REQUESTS; i++) {
+        fbk_write(requests[i].code, requests[i].identifier, requests[i].attributes, requests[i].attributes_len, requests[i].add_mac,
+                  secret, sizeof secret, packets[i], sizeof packets[i], &lengths[i]);
+        packets[i][requests[i].there.at] ^= requests[i].there.by;
+    }
+}
 
 /* Prints an answer; a refused call must have left the scheduler as it was. */
 static uint32_t show(const char *call, uint32_t answer)
@@ -67,7 +79,7 @@ static uint32_t try_step(uint32_t job, size_t table_len, size_t reply_size, size
 static void refusals(void)
 {
     try_open(NULL, 0, store, sizeof store);
-    try_open(requests[0].packet, requests[0].length, store, sizeof store - 1);
+    try_open(packets[0], lengths[0], store, sizeof store - 1);
     try_step(0, sizeof table - 1, sizeof reply, sizeof store);
     try_step(0, sizeof table, sizeof reply - 1, sizeof store);
     try_step(0, sizeof table, sizeof reply, sizeof store - 1);
@@ -86,7 +98,7 @@ static void work(void)
     while (next < REQUESTS || open_jobs > 0) {
         for (; next < REQUESTS && open_jobs < FBK_JOBS; next++, open_jobs++) {
             uint32_t job = KEPT;
-            show("open", open_job(&s, requests[next].packet, requests[next].length, clock_now, store, sizeof store, &job));
+            show("open", open_job(&s, packets[next], lengths[next], clock_now, store, sizeof store, &job));
             printf(", %u\n", (unsigned)job);
             busy[job % FBK_JOBS] = 1;
         }
@@ -100,6 +112,7 @@ static void work(void)
 
 int main(void)
 {
+    write_packets();
     memset(&s, 0xEE, sizeof s);
     memcpy(&before, &s, sizeof s);
     show("make", make(&s, NULL, 0, nas_ip, nas_id, sizeof nas_id));
@@ -113,7 +126,7 @@ int main(void)
     try_start("room-12", "00000050");
     refusals();
     work();
-    try_open(requests[0].packet, requests[0].length, store, sizeof store);
+    try_open(packets[0], lengths[0], store, sizeof store);
     show("drop", drop(&s, 0));
     printf("\n");
     show("end", end(&s, table, sizeof table, 1));

@@ -2,9 +2,10 @@
 from calls import JOBS, Drop, End, Open, Start, Step
 from desk import BUFFER, Desk
 from packets import CLOCK
-from sample_requests import GATE, REQUESTS
+from sample_requests import GATE, REQUESTS, sent
 
 KEPT, NUMBERS = 77, "5 6 -8 7"
+PACKETS = [asked.there.made(sent(asked)) for asked in REQUESTS]
 
 
 def line(desk, asked, table=None, store=None):
@@ -23,7 +24,7 @@ def session(user, id):
 
 def refusals(desk):
     yield line(desk, Open(b"", CLOCK))
-    yield line(desk, Open(REQUESTS[0][1], CLOCK), store=desk.store[1:])
+    yield line(desk, Open(PACKETS[0], CLOCK), store=desk.store[1:])
     yield line(desk, Step(0, BUFFER), table=desk.table[1:])
     yield line(desk, Step(0, BUFFER[1:]))
     yield line(desk, Step(0, BUFFER), store=desk.store[1:])
@@ -33,7 +34,7 @@ def refusals(desk):
 
 
 def work(desk):
-    left = [packet for _, packet in REQUESTS]
+    left = list(PACKETS)
     while left or desk.in_use:
         while left and len(desk.in_use) < JOBS:
             yield line(desk, Open(left.pop(0), CLOCK))
@@ -48,6 +49,6 @@ def lines():
         yield line(desk, one)
     yield from refusals(desk)
     yield from work(desk)
-    yield line(desk, Open(REQUESTS[0][1], CLOCK))
+    yield line(desk, Open(PACKETS[0], CLOCK))
     yield line(desk, Drop(0))
     yield line(desk, End(1))

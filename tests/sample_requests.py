@@ -81,6 +81,11 @@ def room(port, address, timeout, user, id, station, filter):
         "port": port, "address": address, "timeout": timeout, "idle": 600, "user": user, "id": id, "station": station, "filter": filter})
 
 
+def sent(asked):
+    """The packet as it is sent."""
+    return exchange_model.request_of(asked.code, asked.identifier, asked.attributes, asked.add_mac, GATE.secret)
+
+
 def answers():
     """Of the second implementation, from the table that samples/rooms.c makes: for each request the packet that comes to the gate,
     what the gate makes of it, and what the check says of the reply that comes back; None where there is none."""
@@ -88,12 +93,11 @@ def answers():
     table += room(12, 0x0A00000C, 7200, b"room-12", b"00000050", b"02-00-5E-10-00-0C", b"day") + bytes(192)
     table += room(12, 0x0A00000D, 7200, b"room-12", b"00000051", b"02-00-5E-10-00-0D", b"guest")
     for asked in REQUESTS:
-        sent = exchange_model.request_of(asked.code, asked.identifier, asked.attributes, asked.add_mac, GATE.secret)
-        packet = asked.there.made(sent)
+        packet = asked.there.made(sent(asked))
         told = handle_model.handle(table, *GATE, bytes(4096), packet, CLOCK)
         table = told.table
         back = asked.back.made(told.reply[:told.reply_len])
-        yield packet, told, exchange_model.check_reply(GATE.secret, sent, back) if back else None
+        yield packet, told, exchange_model.check_reply(GATE.secret, sent(asked), back) if back else None
 
 
 if __name__ == "__main__":
