@@ -1,13 +1,12 @@
 -- Opening: R5, R6, D1 to D3 in their order, else the lowest free job gets the packet's Length bytes. A part of the store has room for them, and the new job has its first block before it.
 -- Assumes nothing.
-use mathlib.Core.Path.{_≡_, refl, sym, ap, _∙_}
+use mathlib.Core.Path.{_≡_, _∙_}
 use mathlib.Core.List.{List}
 use Prim.Native.Nat.{ℕ, _+_, _*_, _≤_, _<_}
 use native.Mathlib.Omega.{arith}
 use borrow.Author.Tests.{eq-eqb, ne-eqb}
 use lib.ListN.{length, take, length-take}
 use Rattle.octets.specs.Runs.{write}
-use Rattle.rules.specs.Packet.{lengthOf}
 use Rattle.rules.specs.Discards.{formOf, Sized}
 use Rattle.jobs.specs.declared.Job.{Job}
 use Rattle.jobs.specs.Job.{firstJob}

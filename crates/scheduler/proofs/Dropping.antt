@@ -1,7 +1,7 @@
 -- A drop: R7 for a number above 3 and for a free job, else the job is free, and a scheduler with one more free job is still one of ours.
 -- Assumes nothing.
-use mathlib.Core.Path.{_≡_, sym, _∙_}
-use mathlib.Core.Bool.{Bool, true, false, not}
+use mathlib.Core.Path.{_≡_}
+use mathlib.Core.Bool.{Bool, true, false}
 use Prim.Native.Nat.{ℕ, _≤_, _<_}
 use borrow.Author.Tests.{lt-ltb, le-ltb}
 use Rattle.jobs.specs.declared.Job.{Job}

@@ -1,7 +1,7 @@
 -- Making: R2 and R3 in their order. A secret and a name that neither refuses are as long as a scheduler has room for.
 -- Assumes nothing.
 use mathlib.Core.Path.{_≡_, refl, sym, _∙_}
-use mathlib.Core.Bool.{Bool, true, false, _||_, false≢true, true≢false}
+use mathlib.Core.Bool.{Bool, true, false, _||_, true≢false}
 use mathlib.Core.List.{List, []}
 use Prim.Native.Nat.{ℕ, _≤_}
 use native.Mathlib.Omega.{arith}
@@ -9,11 +9,10 @@ use borrow.Author.Tests.{ltb-false, eqb-false}
 use lib.Dec.{eqb, ltb}
 use lib.ListN.{length, replicate}
 use Rattle.octets.specs.Runs.{write}
-use Rattle.rules.specs.Settings.{Settings, settings, badSecret, badName}
+use Rattle.rules.specs.Settings.{settings, badSecret, badName}
 use Rattle.jobs.specs.declared.Job.{Job}
 use Rattle.jobs.specs.Job.{freeJob}
 use Rattle.scheduler.specs.declared.Scheduler.{Scheduler}
-use Rattle.scheduler.specs.declared.Made.{Made}
 use Rattle.scheduler.specs.Refusals.{makeRefusal}
 use Rattle.scheduler.specs.Making.{madeOf, makeAnswer}
 

@@ -1,13 +1,12 @@
 -- A step that is not refused: the job is read and moved by the bytes of secret and name that count and by its part of the store, and what comes back is still one of ours.
 -- Assumes nothing.
-use mathlib.Core.Path.{_≡_, refl, sym, ap, _∙_}
+use mathlib.Core.Path.{_≡_, ap, _∙_}
 use mathlib.Core.Bool.{Bool, true, false, cond}
 use mathlib.Core.List.{List}
 use Prim.Native.Nat.{ℕ, _*_, _≤_, _<_}
 use native.Mathlib.Omega.{arith}
 use lib.ListN.{length, take, getD}
 use Rattle.octets.proofs.Part.{length-part}
-use Rattle.answers.specs.declared.Answer.{Answer}
 use Rattle.jobs.specs.declared.Moved.{Moved}
 use Rattle.jobs.specs.declared.Ending.{Ending}
 use Rattle.jobs.specs.declared.Ending.the-variants as K
@@ -16,7 +15,7 @@ use Rattle.jobs.specs.Moves.{moved, movedTable, replyAfter}
 use Rattle.scheduler.specs.declared.Scheduler.{Scheduler}
 use Rattle.scheduler.specs.declared.Called.{Called}
 use Rattle.scheduler.specs.Scheduler.{settingsOf, jobAt, withJob, restartAll, partOf, Ours}
-use Rattle.scheduler.specs.Calls.{called, isAck, steppedAs, movedOf}
+use Rattle.scheduler.specs.Calls.{isAck, steppedAs, movedOf}
 use Rattle.scheduler.proofs.Four.{noJob, job-read}
 use Rattle.scheduler.proofs.Kept.{with-ours, all-ours}
 use Rattle.scheduler.proofs.Admitting.{cut}

@@ -1,6 +1,6 @@
 -- A scheduler that making does not refuse: four free jobs, one of ours, and what it was made with reads back. The bytes that count are those that were copied over the zeros.
 -- Assumes nothing.
-use mathlib.Core.Path.{_≡_, refl, sym, ap, _∙_}
+use mathlib.Core.Path.{_≡_, refl, ap, _∙_}
 use mathlib.Core.Bool.{Bool, true, false, cond}
 use mathlib.Core.List.{List}
 use Prim.Native.Nat.{ℕ, zero, suc, _+_, _≤_}
@@ -8,7 +8,7 @@ use native.Mathlib.Omega.{arith}
 use lib.ListN.{length, take, replicate, length-replicate}
 use Rattle.octets.specs.Runs.{write}
 use Rattle.octets.proofs.Write.{length-write, take-write}
-use Rattle.rules.specs.Settings.{Settings, settings, badSecret, badName}
+use Rattle.rules.specs.Settings.{Settings, badSecret, badName}
 use Rattle.jobs.specs.Job.{freeJob, JobOurs}
 use Rattle.scheduler.specs.Scheduler.{settingsOf, jobAt, Ours}
 use Rattle.scheduler.specs.Refusals.{makeRefusal}

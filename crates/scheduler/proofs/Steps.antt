@@ -1,6 +1,6 @@
 -- A step, refused or not: a refusal returns its number alone and leaves scheduler, table and reply buffer as they were.
 -- Assumes nothing.
-use mathlib.Core.Path.{_≡_, _∙_}
+use mathlib.Core.Path.{_≡_}
 use mathlib.Core.List.{List}
 use Prim.Native.Nat.{ℕ}
 use borrow.Author.Tests.{eq-eqb, ne-eqb}

@@ -28,11 +28,11 @@ pub fn start(
 {
     match sessions::insert(t, port, address, timeout, idle, user, id, station, filter) {
         sessions::Inserted::Slot(k) => Called {
-            scheduler: super::work::restart_all(s),
+            scheduler: super::work::restart_all(s), // a start restarts
             outcome: Outcome::Started(k),
         },
         sessions::Inserted::NotInserted(n) => Called {
-            scheduler: s,
+            scheduler: s, // a refused start restarts nobody
             outcome: Outcome::Refused(n),
         },
     }

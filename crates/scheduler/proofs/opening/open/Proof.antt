@@ -15,7 +15,18 @@ returns-3 : tie.Need-returns-3
 returns-3 c = (search (needs, open-discarded), (search (needs, discarded-store), search needs))
 
 returns-4 : tie.Need-returns-4
-returns-4 c = (search (needs, open-admitted), (search (needs, admitted-store), search (needs, admitted-ours)))
+returns-4 c =
+    let done = c .before .before .admit .ensures in
+    let sized = c .before .before .before .before in
+    let formed = sized .before .before in
+    let lowest = formed .before .before in
+    let start = lowest .before .before .before .before in (
+      open-admitted _ _ _ (lowest .before .if1 .left) _ (lowest .lowest-free .ensures .0) (formed .before .if2 .left) _ (formed .form .ensures) _ (sized .before .if3 .left) (sized .length-of .ensures) _ _ (done .0),
+      (
+        admitted-store _ _ _ (lowest .before .if1 .left) _ (lowest .lowest-free .ensures .0) (formed .before .if2 .left) _ (formed .form .ensures) _ (sized .before .if3 .left) (sized .length-of .ensures) _ (done .1),
+        admitted-ours _ _ _ _ _ _ (done .0) (sized .length-of .ensures) (start .pre),
+      ),
+    )
 
 pub open-spec : {M : Type 1} → statement M
 open-spec =

@@ -6,10 +6,20 @@ use Rattle.scheduler.proofs.stepping.worked.Statement.{statement}
 use Rattle.scheduler.proofs.stepping.worked.Tie as tie
 
 step-requires : tie.Need-step-requires
-step-requires c κs = (search (needs, read-ours), search (needs, secret-short), search needs, search needs)
+step-requires c κs =
+    let start = c .before .before .before .before .before .before .before .before .before .before in
+    (read-ours _ _ (start .pre .0) (start .pre .1), secret-short _ (start .pre .0), start .pre .2, start .pre .3)
 
 returns : tie.Need-returns
-returns c = (search (needs, read-moved), (search (needs, read-table), (search needs, search (needs, job-ours))))
+returns c =
+    let done = c .before .before .before .before in
+    let start = done .before .before .before .before .before .before .before .before .before .before .before in (
+      read-moved _ _ (start .pre .0) (start .pre .1) _ _ _ (done .step .ensures .0),
+      (
+        read-table _ _ (start .pre .0) (start .pre .1) _ _ _ (done .step .ensures .1 .0),
+        (done .step .ensures .1 .1 .0, job-ours _ (done .step .result) (start .pre .0) (done .step .ensures .1 .1 .1)),
+      ),
+    )
 
 pub worked-spec : {M : Type 1} → statement M
 worked-spec =
