@@ -58,6 +58,10 @@ unfoldable pub steps : List Out → ℕ
 steps [] = 0
 steps (o ∷ os) = countsBy (o .outcome) + steps os
 
+-- 4 * 132 + (3 + 2 + 1) * 64: four jobs, and each ACK sends those that are left over the slots once more
+abbrev pub mostSteps : ℕ
+mostSteps = 912
+
 -- a newly made scheduler, any table and any store
 abbrev pub world : D.Scheduler → List ℕ → List ℕ → World
 world s t store = record { scheduler = s; table = t; store = store }
@@ -78,9 +82,9 @@ pub record Demand3 : Type 0 where
   pub table : (s : D.Scheduler) → New s → (cs : List Call) (t store : List ℕ) → run cs (world s t store) .world .table ≡ serially cs s t store .serial .table
   -- if nothing is opened, started, ended or dropped after that, all open requests are finished by the 912th further step that is not refused
   pub ends : (s : D.Scheduler) → New s → (cs ds : List Call) (t store : List ℕ)
-      → quiet (run ds (run cs (world s t store) .world) .outs) ≡ true → 912 ≤ steps (run ds (run cs (world s t store) .world) .outs)
+      → quiet (run ds (run cs (world s t store) .world) .outs) ≡ true → mostSteps ≤ steps (run ds (run cs (world s t store) .world) .outs)
       → (j : ℕ) → openAt (run ds (run cs (world s t store) .world) .world .scheduler .jobs) j ≡ false
   -- and the serial execution has no note left
   pub struck : (s : D.Scheduler) → New s → (cs ds : List Call) (t store : List ℕ)
-      → quiet (run ds (run cs (world s t store) .world) .outs) ≡ true → 912 ≤ steps (run ds (run cs (world s t store) .world) .outs)
+      → quiet (run ds (run cs (world s t store) .world) .outs) ≡ true → mostSteps ≤ steps (run ds (run cs (world s t store) .world) .outs)
       → (j : ℕ) → notedAt (serially (cs ++ ds) s t store .serial .notes) j ≡ false
