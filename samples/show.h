@@ -1,4 +1,4 @@
-/* Packets and sessions in words, for samples/rooms.c. */
+/* Packets and sessions in words, for the samples. */
 #include <stddef.h>
 #include <stdint.h>
 

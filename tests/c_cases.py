@@ -62,6 +62,11 @@ def desk(probe, tally):
         tally.same(len(printed), len(wanted), "lines,", *language)
 
 
+def interleaved(probe, tally):
+    stored = (ROOT / "samples" / "interleaved.stdout").read_text()
+    tally.same(ran(["gcc", "-std=c99"], ["samples/interleaved.c", "samples/show.c"]), stored, "two requests in work at once")
+
+
 def sample(probe, tally):
     """The sample gate prints what is stored, and that is what the second implementation answers."""
     stored = (ROOT / "samples" / "rooms.stdout").read_text()
@@ -92,5 +97,6 @@ GROUPS = [
     ("C: NULL where a length is 0, in C and C++", nulls),
     ("C: the scheduler's pointer forms, in C and C++", desk),
     ("C: the sample gate", sample),
+    ("C: the sample of requests in work at once", interleaved),
     ("C: the archive keeps nothing and allocates nothing", archive),
 ]

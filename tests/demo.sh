@@ -42,3 +42,9 @@ echo
 gcc -std=c99 -Wall -Wextra -O2 -o target/demo/rooms samples/rooms.c samples/show.c target/staticlib/libcapi.a || exit 1
 shown target/demo/rooms samples/rooms.stdout
 echo 'All as the second implementation answers.'
+echo
+echo 'And two requests in work at once, step by step, while a session starts: samples/interleaved.c.'
+echo
+gcc -std=c99 -Wall -Wextra -O2 -o target/demo/interleaved samples/interleaved.c samples/show.c target/staticlib/libcapi.a || exit 1
+shown target/demo/interleaved samples/interleaved.stdout
+echo 'Each request was answered for the session table as it stood when it was finished.'
