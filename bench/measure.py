@@ -1,10 +1,11 @@
-"""Measures the proved code beside OpenSSL and plain C, the walk over the session table, the verdict and whole requests:
-python3 bench/measure.py BENCH WALK VERDICT HANDLE. Fails where a target is missed."""
+"""Measures the proved code beside OpenSSL and plain C, the walk over the session table, the verdict, whole requests and steps:
+python3 bench/measure.py BENCH WALK VERDICT HANDLE STEPS. Fails where a target is missed."""
 import subprocess
 import sys
 
 import callgrind
 import handle
+import steps
 import verdict
 import walk
 
@@ -51,7 +52,7 @@ def digests(bench):
 
 
 def main():
-    bench, walker, judge, handler = sys.argv[1:]
+    bench, walker, judge, handler, stepper = sys.argv[1:]
     missed = digests(bench)
     print()
     missed += walk.slots(walker)
@@ -59,6 +60,8 @@ def main():
     missed += verdict.verdicts(bench, judge)
     print()
     missed += handle.requests(handler)
+    print()
+    missed += steps.steps(stepper)
     for line in missed:
         print("missed:", line)
     print("failed: a target is missed" if missed else "every target is met")

@@ -16,4 +16,5 @@ gcc -O2 -Wall -Wno-deprecated-declarations -o target/bench/bench bench/bench.c b
 gcc -O2 -Wall -o target/bench/walk bench/walk.c "$2" -Wl,-z,now || exit 1
 gcc -O2 -Wall -o target/bench/verdict bench/verdict.c bench/packets.c bench/plain.c "$3" -Wl,-z,now || exit 1
 gcc -O2 -Wall -o target/bench/handle bench/handle.c bench/packets.c bench/plain.c "$4" -Wl,-z,now || exit 1
-exec python3 bench/measure.py target/bench/bench target/bench/walk target/bench/verdict target/bench/handle
+gcc -O2 -Wall -o target/bench/steps bench/steps.c bench/packets.c bench/plain.c "$4" -Wl,-z,now || exit 1
+exec python3 bench/measure.py target/bench/bench target/bench/walk target/bench/verdict target/bench/handle target/bench/steps
