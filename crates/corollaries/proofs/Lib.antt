@@ -1,0 +1,6 @@
+pub mod Chaining
+pub mod Steady
+pub mod Finishing
+pub mod Answering
+pub mod Accepting
+pub mod Proved

@@ -1,0 +1,1 @@
+// What demands 1 to 3 give together over lists of calls. No code.
