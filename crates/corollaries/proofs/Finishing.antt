@@ -23,9 +23,11 @@ use Rattle.demands.proofs.Telling.{WhenDone}
 use Rattle.corollaries.proofs.Steady.{settings-kept}
 
 module _ (b p : List ℕ) (clock : ℕ) where
+  -- the answer a and the reply buffer r are those of the request handled whole
   abbrev pub Handled : Settings → List ℕ → List ℕ → Answer → Type 0
   Handled g t r a = (handleAnswer g t b p clock ≡ a) × (r ≡ handleReply g t b p clock)
 
+  -- claimed of a step that finished, of others nothing
   abbrev Told : Settings → List ℕ → Out → Type 0
   Told g t o = WhenDone (Handled g t (o .reply)) (o .outcome)
 

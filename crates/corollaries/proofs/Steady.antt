@@ -16,6 +16,7 @@ use Rattle.serial.specs.Serial.{Note, none, noted, noteAt, notedAt, Serial, Ent
 use Rattle.serial.specs.Demand3.{finished, world, serially, New}
 use Rattle.serial.proofs.Whole.{whole}
 
+-- after the entry e the settings are g
 record Keeps (g : Settings) (e : Entry) : Type 0 where
   same : e .serial .settings ≡ g
 
