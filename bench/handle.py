@@ -2,7 +2,6 @@
 import callgrind
 
 SESSIONS = "64 slots, all live"
-# What a call is, the most instructions that it may take, and a miss that docs/DECISIONS.md records: its figure and the decision's number.
 KINDS = {
     "plain": (f"Disconnect, no type 80, 102 bytes, {SESSIONS}", 4500, (8200, 34)),
     "lone": ("Disconnect, no type 80, 102 bytes, 64 slots, one live", 4500, (5900, 34)),
@@ -14,17 +13,4 @@ KINDS = {
 
 
 def requests(program):
-    """Prints the table of whole requests; the targets that are missed, but for the known misses that have not grown."""
-    print("a whole request                                                 instructions    target")
-    missed = []
-    for kind, (title, target, known) in KINDS.items():
-        count = callgrind.per_call([program, kind], "fbk_handle")
-        print(f"{title:64}{count:12,.0f}{target:10,}", flush=True)
-        if count <= target:
-            continue
-        most, decision = known or (target, None)
-        if count <= most:
-            print(f"    missed, and known: docs/DECISIONS.md, {decision}")
-        else:
-            missed.append(f"{title}: {count:,.0f} instructions, the target is {target:,}" + (f" and the known miss {most:,}" if known else ""))
-    return missed
+    return callgrind.listed("a whole request", program, "fbk_handle", KINDS)
