@@ -27,7 +27,7 @@ use Rattle.jobs.specs.declared.Ending as E
 use Rattle.jobs.specs.declared.Ending.the-variants as K
 use Rattle.jobs.specs.declared.Moved as M
 use Rattle.jobs.specs.Job.{freeJob}
-use Rattle.jobs.specs.Reread.{holds, holdsPassed}
+use Rattle.reread.specs.Reread.{holds, holdsPassed}
 use Rattle.jobs.specs.Moves.{going, done, checkedAs, checkMove, wordsSigned, matchJob, skewAt, commitMove, slotMove, slotTable, movedAt, moved, movedTableAt, movedTable}
 use Rattle.demands.proofs.Discarding.{Among, or-right, check-among}
 

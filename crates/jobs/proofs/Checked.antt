@@ -24,7 +24,7 @@ use Rattle.handler.proofs.Fresh.{answered, nak-short}
 use Rattle.jobs.specs.declared.Job.{Job}
 use Rattle.jobs.specs.declared.Moved.{Moved}
 use Rattle.jobs.specs.Job.{stateOf}
-use Rattle.jobs.specs.Reread.{holds}
+use Rattle.reread.specs.Reread.{holds}
 use Rattle.jobs.specs.Moves.{going, done, wordsSigned, checkedAs, checkMove, replyAfter}
 
 -- ---- D4

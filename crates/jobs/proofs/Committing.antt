@@ -29,7 +29,7 @@ use Rattle.answers.specs.Commit.{commitAnswer}
 use Rattle.jobs.specs.declared.Job.{Job}
 use Rattle.jobs.specs.declared.Moved.{Moved}
 use Rattle.jobs.specs.Moves.{done, commitMove, replyAfter}
-use Rattle.jobs.specs.Again.{Stands}
+use Rattle.reread.specs.Again.{Stands}
 
 size-right : (b : Bool) (z : ℕ) → eqb z 18 ≡ b → not b ≡ false → z ≡ 18
 size-right true z e h = eqb-true z 18 e

@@ -1,6 +1,4 @@
 pub mod Hashing
-pub mod Rereading
-pub mod Retold
 pub mod Examined
 pub mod Committing
 pub mod Checked

@@ -17,7 +17,7 @@ use Rattle.jobs.specs.declared.Job.{Job}
 use Rattle.jobs.specs.declared.Stage.the-variants.{Free, Hash, Check, Match}
 use Rattle.jobs.specs.declared.Moved.{Moved}
 use Rattle.jobs.specs.Job.{Placed, JobOurs}
-use Rattle.jobs.specs.Reread.{holds, holdsPassed}
+use Rattle.reread.specs.Reread.{holds, holdsPassed}
 use Rattle.jobs.specs.Moves.{going, hashJob, wordsSigned, checkedAs, checkMove, matchJob, commitMove, slotMove, slotTable, moved, movedTable}
 
 -- ---- by the stage

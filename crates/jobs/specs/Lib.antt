@@ -1,4 +1,2 @@
 pub mod Job
-pub mod Reread
 pub mod Moves
-pub mod Again

@@ -32,7 +32,7 @@ use Rattle.jobs.specs.declared.Ending as E
 use Rattle.jobs.specs.declared.Ending.the-variants.{Going, Done}
 use Rattle.jobs.specs.declared.Moved as M
 use Rattle.jobs.specs.Job.{freeJob, wordsOf, stateOf}
-use Rattle.jobs.specs.Reread.{holds, holdsPassed}
+use Rattle.reread.specs.Reread.{holds, holdsPassed}
 
 -- it goes on; it is finished, and free again
 abbrev pub going : B.Job → M.Moved

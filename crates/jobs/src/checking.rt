@@ -110,7 +110,7 @@ impl Job {
         ensures { λ r. ⌜ now (reply .exit) ≡ replyAfter (now (secret .entry)) (now (q .entry)) (now (reply .entry)) (r .ending) ⌝ }
     {
         let n = self.length;
-        if crate::reread::holds(n, q) {
+        if reread::holds(n, q) {
             return checked(self, q, secret, address, name, reply);
         }
         crate::done(answers::Answer::Discarded(1))

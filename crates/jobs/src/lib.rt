@@ -2,7 +2,6 @@
 mod checking; // checking.rt: Check
 mod matching; // matching.rt: Match
 mod placing; // placing.rt: Commit, and which of Match and Commit
-mod reread; // reread.rt: the store, read again
 mod words; // words.rt: Hash, and the chaining words
 
 ghost use mathlib.Core.Path.{_≡_};

@@ -8,10 +8,10 @@ ghost use Rattle.slots.specs.Slot.{slotCount};
 ghost use Rattle.rules.specs.Settings.{settings};
 ghost use Rattle.answers.specs.Commit.{commitTable};
 ghost use Rattle.jobs.specs.Moves.{going, matchJob, commitMove, slotMove, slotTable, replyAfter};
-ghost use Rattle.jobs.specs.Again.{Stands};
+ghost use Rattle.reread.specs.Again.{Stands};
 use crate::Job;
 use crate::Moved;
-use crate::reread::Again;
+use reread::Again;
 
 impl Job {
     // Commit: 503, or changes and ACK, by the marks as held and the stamp of the store read again.
@@ -84,7 +84,7 @@ pub fn at_slot(
     let mut ends = [0u16; 256];
     let mut sizes = [0u8; 256];
     let n = j.length;
-    match crate::reread::passed(n, q, address, name, &mut count, &mut ends, &mut sizes) {
+    match reread::passed(n, q, address, name, &mut count, &mut ends, &mut sizes) {
         Again::Gone => crate::done(answers::Answer::Discarded(1)),
         Again::Held(f, stamp) => moved(j, k, stamp, q, secret, t, reply, f, &count, &ends, &sizes),
     }

@@ -24,7 +24,7 @@ use Rattle.jobs.specs.declared.Ending as E
 use Rattle.jobs.specs.declared.Ending.the-variants as K
 use Rattle.jobs.specs.declared.Moved as M
 use Rattle.jobs.specs.Job.{freeJob, isOpen, restarted}
-use Rattle.jobs.specs.Reread.{holds, holdsPassed}
+use Rattle.reread.specs.Reread.{holds, holdsPassed}
 use Rattle.jobs.specs.Moves.{going, done, hashJob, wordsSigned, checkedAs, checkMove, matchJob, commitMove, slotMove, movedAt}
 use Rattle.scheduler.specs.declared.Scheduler as D
 use Rattle.scheduler.specs.Scheduler.{jobAt, openAt, withJob, restartAll}

@@ -27,7 +27,7 @@ use Rattle.handler.specs.Refusals.{refusalOf}
 use Rattle.jobs.specs.declared.Job as B
 use Rattle.jobs.specs.declared.Stage.the-variants.{Hash, Check}
 use Rattle.jobs.specs.Job.{wordsOf, stateOf}
-use Rattle.jobs.specs.Reread.{holds}
+use Rattle.reread.specs.Reread.{holds}
 use Rattle.jobs.specs.Moves.{going, hashJob, wordsSigned, checkedAs, checkMove}
 use Rattle.serial.proofs.Same.{SamePacket, form-sized, same-holds}
 use Rattle.serial.proofs.Judging.{check-same, length-same}

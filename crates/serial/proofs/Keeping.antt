@@ -21,7 +21,7 @@ use Rattle.jobs.specs.declared.Job as B
 use Rattle.jobs.specs.declared.Stage as S
 use Rattle.jobs.specs.declared.Stage.the-variants.{Free, Hash, Check, Match}
 use Rattle.jobs.specs.Job.{firstJob, restartedAt, restarted, Placed, JobOurs}
-use Rattle.jobs.specs.Reread.{holds, holdsPassed}
+use Rattle.reread.specs.Reread.{holds, holdsPassed}
 use Rattle.jobs.specs.Moves.{going, done, hashJob, wordsSigned, checkedAs, checkMove, matchJob, commitMove, slotMove, movedAt, moved}
 use Rattle.serial.proofs.Same.{form-sized}
 use Rattle.serial.proofs.Opening.{some-block}

@@ -29,7 +29,7 @@ use Rattle.answers.specs.Commit.{countAnswer, commitAnswer, commitTable}
 use Rattle.handler.specs.Refusals.{refusalOf}
 use Rattle.handler.specs.Handle.{tableAs}
 use Rattle.jobs.specs.declared.Job as B
-use Rattle.jobs.specs.Reread.{holdsPassed}
+use Rattle.reread.specs.Reread.{holdsPassed}
 use Rattle.jobs.specs.Moves.{going, matchJob, skewAt, commitMove, slotMove, slotTable}
 use Rattle.serial.proofs.Same.{SamePacket}
 use Rattle.serial.proofs.Judging.{answer-same, table-same}

@@ -17,7 +17,7 @@ use Rattle.signing.proofs.Messages.{Alike, same-first}
 use Rattle.rules.specs.Packet.{codeOf, identifierOf, lengthOf, authOf, areaOf}
 use Rattle.rules.specs.Discards.{badLength, badCode, badAttributes, formOf, Sized}
 use Rattle.rules.proofs.Forms.{form-good, good-sized}
-use Rattle.jobs.specs.Reread.{holds}
+use Rattle.reread.specs.Reread.{holds}
 
 -- q, read again, is the packet p
 pub record SamePacket (p q : List ℕ) : Type 0 where

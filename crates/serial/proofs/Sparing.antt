@@ -23,7 +23,7 @@ use Rattle.jobs.specs.declared.Stage as S
 use Rattle.jobs.specs.declared.Stage.the-variants.{Free, Hash, Check, Match}
 use Rattle.jobs.specs.declared.Ending as E
 use Rattle.jobs.specs.declared.Ending.the-variants as K
-use Rattle.jobs.specs.Reread.{holdsPassed}
+use Rattle.reread.specs.Reread.{holdsPassed}
 use Rattle.jobs.specs.Moves.{going, done, matchJob, commitMove, slotMove, slotTable, movedAt, movedTableAt}
 use Rattle.scheduler.specs.Calls.{isAck}
 

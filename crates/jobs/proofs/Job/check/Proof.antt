@@ -1,7 +1,7 @@
 -- `Job::check` meets its contract: the store is read again first.
 -- Assumes nothing.
 use borrow.Author.Needs.{needs}
-use Rattle.jobs.proofs.Retold.{held-form, held-sized}
+use Rattle.reread.proofs.Retold.{held-form, held-sized}
 use Rattle.jobs.proofs.Checked.{check-held, check-gone, discarded-reply}
 use Rattle.jobs.proofs.Job.check.Statement.{statement}
 use Rattle.jobs.proofs.Job.check.Tie as tie

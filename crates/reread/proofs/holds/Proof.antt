@@ -1,9 +1,9 @@
--- `jobs::reread::holds` meets its contract: D1 to D3 by `form`, then Length.
+-- `reread::holds` meets its contract: D1 to D3 by `form`, then Length.
 -- Assumes nothing.
 use borrow.Author.Needs.{needs}
-use Rattle.jobs.proofs.Rereading.{holds-length, holds-not}
-use Rattle.jobs.proofs.reread.holds.Statement.{statement}
-use Rattle.jobs.proofs.reread.holds.Tie as tie
+use Rattle.reread.proofs.Rereading.{holds-length, holds-not}
+use Rattle.reread.proofs.holds.Statement.{statement}
+use Rattle.reread.proofs.holds.Tie as tie
 
 returns : tie.Need-returns
 returns c = search (needs, holds-length)

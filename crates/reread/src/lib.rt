@@ -9,8 +9,8 @@ ghost use Rattle.causes.specs.Causes.{causeOf};
 ghost use Rattle.rules.specs.Verdict.{applies};
 ghost use Rattle.rules.specs.Packet.{codeOf, areaOf};
 ghost use Rattle.rules.specs.Discards.{formOf, Sized};
-ghost use Rattle.jobs.specs.Reread.{holds, oddMac};
-ghost use Rattle.jobs.specs.Again.{Told};
+ghost use Rattle.reread.specs.Reread.{holds, oddMac};
+ghost use Rattle.reread.specs.Again.{Told};
 
 // The store no longer shows the request, or shows it with these flags and this stamp.
 pub enum Again {

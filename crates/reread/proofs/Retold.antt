@@ -20,9 +20,9 @@ use Rattle.rules.specs.Settings.{settings}
 use Rattle.rules.specs.Discards.{formOf, Sized}
 use Rattle.rules.specs.Verdict.{applies}
 use Rattle.rules.proofs.Forms.{good-sized, form-good}
-use Rattle.jobs.specs.Reread.{holds, oddMac, holdsPassed}
-use Rattle.jobs.specs.Again.{Stands}
-use Rattle.jobs.proofs.Rereading.{none-applies}
+use Rattle.reread.specs.Reread.{holds, oddMac, holdsPassed}
+use Rattle.reread.specs.Again.{Stands}
+use Rattle.reread.proofs.Rereading.{none-applies}
 
 both : (a b : Bool) → (a && b) ≡ true → (a ≡ true) × (b ≡ true)
 both true b h = (refl, h)

@@ -1,9 +1,9 @@
--- `jobs::reread::passed` meets its contract: D1 to D3 and Length first.
+-- `reread::passed` meets its contract: D1 to D3 and Length first.
 -- Assumes nothing.
 use borrow.Author.Needs.{needs}
-use Rattle.jobs.proofs.Retold.{held-form, held-sized, gone-passed}
-use Rattle.jobs.proofs.reread.passed.Statement.{statement}
-use Rattle.jobs.proofs.reread.passed.Tie as tie
+use Rattle.reread.proofs.Retold.{held-form, held-sized, gone-passed}
+use Rattle.reread.proofs.passed.Statement.{statement}
+use Rattle.reread.proofs.passed.Tie as tie
 
 scanned-requires : tie.Need-scanned-requires
 scanned-requires c κs = ((search (needs, held-sized), search (needs, held-form)), (search needs, search needs, search needs))

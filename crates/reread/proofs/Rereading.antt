@@ -21,7 +21,7 @@ use Rattle.causes.specs.Causes.{causeOf}
 use Rattle.causes.proofs.Passed.{once}
 use Rattle.rules.specs.Discards.{formOf, Sized}
 use Rattle.rules.specs.Verdict.{applies}
-use Rattle.jobs.specs.Reread.{holds, oddMac}
+use Rattle.reread.specs.Reread.{holds, oddMac}
 
 -- ---- D1 to D3 and Length
 

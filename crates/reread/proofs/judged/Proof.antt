@@ -1,9 +1,9 @@
--- `jobs::reread::judged` meets its contract: stamp, type 80 and causes, each by its own return.
+-- `reread::judged` meets its contract: stamp, type 80 and causes, each by its own return.
 -- Assumes nothing.
 use borrow.Author.Needs.{needs}
-use Rattle.jobs.proofs.Retold.{gone-stamp, gone-objected, held-passed, held-stands}
-use Rattle.jobs.proofs.reread.judged.Statement.{statement}
-use Rattle.jobs.proofs.reread.judged.Tie as tie
+use Rattle.reread.proofs.Retold.{gone-stamp, gone-objected, held-passed, held-stands}
+use Rattle.reread.proofs.judged.Statement.{statement}
+use Rattle.reread.proofs.judged.Tie as tie
 
 returns : tie.Need-returns
 returns c = (λ secret. search (needs, held-passed), search (needs, held-stands))

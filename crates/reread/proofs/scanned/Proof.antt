@@ -1,9 +1,9 @@
--- `jobs::reread::scanned` meets its contract: the pass is over the area of the attributes.
+-- `reread::scanned` meets its contract: the pass is over the area of the attributes.
 -- Assumes nothing.
 use borrow.Author.Needs.{needs}
 use Rattle.rules.proofs.Verdicts.{area-of, area-short}
-use Rattle.jobs.proofs.reread.scanned.Statement.{statement}
-use Rattle.jobs.proofs.reread.scanned.Tie as tie
+use Rattle.reread.proofs.scanned.Statement.{statement}
+use Rattle.reread.proofs.scanned.Tie as tie
 
 survey-requires : tie.Need-survey-requires
 survey-requires c κs = (search (needs, area-short), search needs, search needs, search needs)

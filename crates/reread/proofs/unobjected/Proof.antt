@@ -1,9 +1,9 @@
--- `jobs::reread::unobjected` meets its contract: where no cause applies the first type 80 is the only one.
+-- `reread::unobjected` meets its contract: where no cause applies the first type 80 is the only one.
 -- Assumes nothing.
 use borrow.Author.Needs.{needs}
-use Rattle.jobs.proofs.Rereading.{objected, unobjected-by}
-use Rattle.jobs.proofs.reread.unobjected.Statement.{statement}
-use Rattle.jobs.proofs.reread.unobjected.Tie as tie
+use Rattle.reread.proofs.Rereading.{objected, unobjected-by}
+use Rattle.reread.proofs.unobjected.Statement.{statement}
+use Rattle.reread.proofs.unobjected.Tie as tie
 
 returns : tie.Need-returns
 returns c = search (needs, objected)

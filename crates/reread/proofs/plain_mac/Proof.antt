@@ -1,9 +1,9 @@
--- `jobs::reread::plain_mac` meets its contract: the length that the pass kept.
+-- `reread::plain_mac` meets its contract: the length that the pass kept.
 -- Assumes nothing.
 use borrow.Author.Needs.{needs}
-use Rattle.jobs.proofs.Rereading.{mac-there, mac-missing}
-use Rattle.jobs.proofs.reread.plain_mac.Statement.{statement}
-use Rattle.jobs.proofs.reread.plain_mac.Tie as tie
+use Rattle.reread.proofs.Rereading.{mac-there, mac-missing}
+use Rattle.reread.proofs.plain_mac.Statement.{statement}
+use Rattle.reread.proofs.plain_mac.Tie as tie
 
 returns : tie.Need-returns
 returns c = search (needs, mac-there)

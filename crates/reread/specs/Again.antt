@@ -13,9 +13,9 @@ use Rattle.stamps.specs.Stamp.{stampOf}
 use Rattle.rules.specs.Packet.{codeOf, areaOf}
 use Rattle.rules.specs.Settings.{settings}
 use Rattle.rules.specs.Discards.{formOf, Sized}
-use Rattle.jobs.specs.declared.reread.Again as D
-use Rattle.jobs.specs.declared.reread.Again.the-variants.{Gone, Held}
-use Rattle.jobs.specs.Reread.{oddMac, holdsPassed}
+use Rattle.reread.specs.declared.Again as D
+use Rattle.reread.specs.declared.Again.the-variants.{Gone, Held}
+use Rattle.reread.specs.Reread.{oddMac, holdsPassed}
 
 pub record Stands (n : ℕ) (q : List ℕ) (v : ℕ) (f : Flags) (count ends sizes : List ℕ) : Type 0 where
   pub sized : Sized q n
