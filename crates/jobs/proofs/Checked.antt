@@ -5,11 +5,8 @@ use mathlib.Core.Bool.{Bool, true, false, false≢true}
 use mathlib.Core.List.{List}
 use Prim.Native.Nat.{ℕ, _≤_}
 use lib.IntN.{ℤ}
-use Rattle.octets.specs.Runs.{part, write, equalBytes}
-use Rattle.md5.specs.declared.State.{State}
+use Rattle.octets.specs.Runs.{write, equalBytes}
 use Rattle.md5.specs.Md5.{output}
-use Rattle.md5.proofs.After.{length-output}
-use Rattle.signing.proofs.Pieces.{compared}
 use Rattle.causes.specs.declared.Cause.{Cause}
 use Rattle.rules.specs.declared.Verdict as R
 use Rattle.rules.specs.declared.Verdict.the-variants as J
@@ -23,14 +20,9 @@ use Rattle.answers.specs.declared.Answer.the-variants as A
 use Rattle.handler.proofs.Fresh.{answered, nak-short}
 use Rattle.jobs.specs.declared.Job.{Job}
 use Rattle.jobs.specs.declared.Moved.{Moved}
-use Rattle.jobs.specs.Job.{stateOf}
+use Rattle.chaining.specs.Words.{hashState}
 use Rattle.reread.specs.Reread.{holds}
 use Rattle.jobs.specs.Moves.{going, done, wordsSigned, checkedAs, checkMove, replyAfter}
-
--- ---- D4
-
-pub words-signed : (w q d : List ℕ) (s : State) (r : Bool) → s ≡ stateOf w → d ≡ output s → r ≡ equalBytes (part 4 16 q) (part 0 16 d) → r ≡ equalBytes (authOf q) (output (stateOf w))
-words-signed w q d s r i h e = compared (part 4 16 q) d (output (stateOf w)) r e (h ∙ ap output i) (length-output (stateOf w))
 
 -- ---- the arms
 
@@ -73,14 +65,13 @@ nak-here q v c k h e = h c k e
 -- ---- the whole
 
 module _ (g : Settings) (j : Job) (q : List ℕ) (r : Moved) where
-  pub check-verdict : (b : Bool) (v : R.Verdict) → b ≡ equalBytes (authOf q) (output (stateOf (j .words))) → v ≡ checkVerdict g b q (j .clock) → r ≡ checkedAs j q v → r ≡ checkedAs j q (checkVerdict g (wordsSigned j q) q (j .clock))
-  unfolding wordsSigned
-  check-verdict b v i h e = rw (← i, ← h) e
+  pub by-verdict : (b : Bool) (v : R.Verdict) → v ≡ checkVerdict g b q (j .clock) → r ≡ checkedAs j q v → r ≡ checkedAs j q (checkVerdict g b q (j .clock))
+  by-verdict b v h e = rw (← h) e
 
   module _ (b : Bool) (is : b ≡ holds (j .length) q) where
-    pub check-held : b ≡ true → r ≡ checkedAs j q (checkVerdict g (wordsSigned j q) q (j .clock)) → r ≡ checkMove g j q
-    unfolding checkMove
-    check-held h e = e ∙ rw (← is, h)
+    pub check-held : b ≡ true → (d : Bool) → d ≡ equalBytes (authOf q) (output (hashState (j .words))) → r ≡ checkedAs j q (checkVerdict g d q (j .clock)) → r ≡ checkMove g j q
+    unfolding checkMove wordsSigned
+    check-held h d i e = e ∙ rw (← is, h, i)
 
     pub check-gone : b ≡ false → r ≡ done (A.Discarded 1) → r ≡ checkMove g j q
     unfolding checkMove

@@ -1,4 +1,4 @@
-pub mod Hashing
+pub mod Blocks
 pub mod Examined
 pub mod Committing
 pub mod Checked

@@ -1,23 +1,15 @@
 -- A request in work (document 01, "The desk": "A job holds the four chaining words and the 64 slot marks beside its place").
 -- Assumes nothing.
 use mathlib.Core.Bool.{Bool, true, false}
-use mathlib.Core.List.{List, [], _∷_}
 use Prim.Native.Nat.{ℕ, _+_, _≤_, _<_}
-use lib.ListN.{getD, replicate}
-use Rattle.md5.specs.declared.State.{State}
+use lib.ListN.{replicate}
 use Rattle.md5.specs.Md5.{initial}
 use Rattle.signing.specs.Block.{blockCount}
 use Rattle.slots.specs.Marks.{noMarks}
+use Rattle.chaining.specs.Words.{wordsOf}
 use Rattle.jobs.specs.declared.Job as D
 use Rattle.jobs.specs.declared.Stage as S
 use Rattle.jobs.specs.declared.Stage.the-variants.{Free, Hash, Check, Match}
-
--- the chaining words, as a job holds them
-abbrev pub wordsOf : State → List ℕ
-wordsOf q = q .a ∷ q .b ∷ q .c ∷ q .d ∷ []
-
-abbrev pub stateOf : List ℕ → State
-stateOf w = record { a = getD w 0 0; b = getD w 1 0; c = getD w 2 0; d = getD w 3 0 }
 
 -- a free job: all its fields zero, so that equal histories give equal schedulers
 abbrev pub freeJob : D.Job

@@ -31,7 +31,8 @@ use Rattle.jobs.specs.declared.Stage.the-variants.{Free, Hash, Check, Ma
 use Rattle.jobs.specs.declared.Ending as E
 use Rattle.jobs.specs.declared.Ending.the-variants.{Going, Done}
 use Rattle.jobs.specs.declared.Moved as M
-use Rattle.jobs.specs.Job.{freeJob, wordsOf, stateOf}
+use Rattle.chaining.specs.Words.{wordsOf, hashState}
+use Rattle.jobs.specs.Job.{freeJob}
 use Rattle.reread.specs.Reread.{holds, holdsPassed}
 
 -- it goes on; it is finished, and free again
@@ -46,7 +47,7 @@ unfoldable pub hashJob : List ℕ → B.Job → ℕ → List ℕ → B.Job
 hashJob secret j k q =
     record {
       stage = cond (ltb (k + 1) (blockCount (j .length + length secret))) (Hash (k + 1)) Check;
-      words = wordsOf (hashed (stateOf (j .words)) k q (j .length) secret);
+      words = wordsOf (hashed (hashState (j .words)) k q (j .length) secret);
       marks = j .marks;
       length = j .length;
       clock = j .clock;
@@ -54,7 +55,7 @@ hashJob secret j k q =
 
 -- D4 by the words as held: are they the authenticator in the store
 unfoldable pub wordsSigned : B.Job → List ℕ → Bool
-wordsSigned j q = equalBytes (authOf q) (output (stateOf (j .words)))
+wordsSigned j q = equalBytes (authOf q) (output (hashState (j .words)))
 
 -- Check: D4 to D6 and causes 1 to 6; what passed goes on to slot 0
 abbrev pub checkedAs : B.Job → List ℕ → R.Verdict → M.Moved

@@ -2,31 +2,19 @@
 ghost use mathlib.Core.Path.{_≡_};
 ghost use Prim.Native.Nat.{_≤_};
 ghost use lib.ListN.{length};
-ghost use Rattle.octets.specs.Runs.{equalBytes};
-ghost use Rattle.md5.specs.Md5.{output};
 ghost use lib.IntN.{ℤ};
 ghost use Rattle.survey.specs.Survey.{Surveyed};
 ghost use Rattle.causes.specs.declared.Cause.{Cause};
 ghost use Rattle.rules.specs.declared.Verdict.the-variants.{Nak};
-ghost use Rattle.rules.specs.Packet.{codeOf, authOf, areaOf};
+ghost use Rattle.rules.specs.Packet.{codeOf, areaOf};
 ghost use Rattle.rules.specs.Discards.{formOf, Sized};
 ghost use Rattle.rules.specs.Settings.{settings};
 ghost use Rattle.rules.specs.Verdict.{checkVerdict};
 ghost use Rattle.reply.specs.Reply.{replyLength};
-ghost use Rattle.jobs.specs.Job.{stateOf};
-ghost use Rattle.jobs.specs.Moves.{wordsSigned, checkedAs, checkMove, replyAfter};
+ghost use Rattle.jobs.specs.Moves.{checkedAs, checkMove, replyAfter};
 use crate::Job;
 use crate::Moved;
 use crate::Stage;
-
-// The words as held are the authenticator in the store.
-fn signed(words: [u32; 4], q: &[u8]) -> bool
-    requires { ⌜ 20 ≤ length (now q) ⌝ }
-    ensures { λ r. ⌜ r ≡ equalBytes (authOf (now (q .entry))) (output (stateOf words)) ⌝ }
-{
-    let d = digest::bytes_of(crate::words::state_of(words));
-    octets::equal16(q, 4, &d, 0)
-}
 
 // What follows from the verdict v; the reply to a NAK fits.
 fn answered(
@@ -65,18 +53,24 @@ fn answered(
     }
 }
 
-// The verdict on the store as it stands, where it holds, and what follows from it.
-fn checked(j: Job, q: &[u8], secret: &[u8], address: u32, name: &[u8], reply: &mut [u8]) -> Moved
+// The verdict on the store as it stands, where it holds, and what follows from it; D4 was judged.
+fn checked(
+    j: Job,
+    right: bool,
+    q: &[u8],
+    secret: &[u8],
+    address: u32,
+    name: &[u8],
+    reply: &mut [u8],
+) -> Moved
     requires { ⌜ Sized (now q) (j .length) × (formOf (now q) ≡ 0) × (4096 ≤ length (now reply)) ⌝ }
-    ensures { λ r. ⌜ r ≡ checkedAs j (now (q .entry)) (checkVerdict (settings (now (secret .entry)) address (now (name .entry))) (wordsSigned j (now (q .entry))) (now (q .entry)) (j .clock)) ⌝ }
+    ensures { λ r. ⌜ r ≡ checkedAs j (now (q .entry)) (checkVerdict (settings (now (secret .entry)) address (now (name .entry))) right (now (q .entry)) (j .clock)) ⌝ }
     ensures { λ r. ⌜ now (reply .exit) ≡ replyAfter (now (secret .entry)) (now (q .entry)) (now (reply .entry)) (r .ending) ⌝ }
 {
     let mut count = [0u8; 256];
     let mut ends = [0u16; 256];
     let mut sizes = [0u8; 256];
     let n = j.length;
-    let words = j.words;
-    let right = signed(words, q);
     let s = octets::slice(q, 20, n - 20);
     let f = survey::survey(s, q[0], &mut count, &mut ends, &mut sizes);
     let v = rules::check(
@@ -110,8 +104,10 @@ impl Job {
         ensures { λ r. ⌜ now (reply .exit) ≡ replyAfter (now (secret .entry)) (now (q .entry)) (now (reply .entry)) (r .ending) ⌝ }
     {
         let n = self.length;
+        let words = self.words;
         if reread::holds(n, q) {
-            return checked(self, q, secret, address, name, reply);
+            let right = chaining::is_authenticator(words, q);
+            return checked(self, right, q, secret, address, name, reply);
         }
         crate::done(answers::Answer::Discarded(1))
     }

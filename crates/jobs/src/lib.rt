@@ -1,8 +1,8 @@
 // A request in work, and its moves (document 01's job of the desk).
 mod checking; // checking.rt: Check
+mod hashing; // hashing.rt: Hash
 mod matching; // matching.rt: Match
 mod placing; // placing.rt: Commit, and which of Match and Commit
-mod words; // words.rt: Hash, and the chaining words
 
 ghost use mathlib.Core.Path.{_≡_};
 ghost use Prim.Native.Nat.{_≤_};
@@ -58,7 +58,7 @@ pub fn first(n: usize, clock: u32) -> Job
 {
     Job {
         stage: Stage::Hash(0),
-        words: words::words_of(md5::initial()),
+        words: chaining::words_of(md5::initial()),
         marks: [0u8; 64],
         length: n,
         clock,

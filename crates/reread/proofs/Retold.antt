@@ -3,9 +3,11 @@
 use mathlib.Core.Path.{_≡_, refl, sym, _∙_}
 use mathlib.Core.Bool.{Bool, true, false, not, _&&_, false≢true}
 use mathlib.Core.List.{List}
-use Prim.Native.Nat.{ℕ}
+use Prim.Native.Nat.{ℕ, _≤_}
+use native.Mathlib.Omega.{arith}
 use borrow.Author.Tests.{eq-eqb, eqb-true}
 use lib.Dec.{eqb}
+use lib.ListN.{length}
 use Rattle.attributes.specs.Attributes.{attributes, any}
 use Rattle.survey.specs.declared.Flags.{Flags}
 use Rattle.survey.specs.Survey.{Surveyed}
@@ -44,6 +46,9 @@ module _ (n : ℕ) (q : List ℕ) (b : Bool) (is : b ≡ holds n q) (h : b ≡ t
 
   pub held-sized : Sized q n
   held-sized = good-sized q n (form-good q held-form) (sym (eqb-true _ _ (tests .1)))
+
+  pub held-long : 20 ≤ length q
+  held-long = omega (arith, held-sized .low, held-sized .given)
 
 pub gone-passed : (secret name q : List ℕ) (address n : ℕ) (b : Bool) → b ≡ holds n q → b ≡ false → holdsPassed (settings secret address name) n q ≡ false
 unfolding holdsPassed

@@ -2,7 +2,7 @@
 -- Assumes nothing.
 use borrow.Author.Needs.{needs}
 use native.Mathlib.Omega.{arith}
-use Rattle.jobs.proofs.Hashing.{blocks-few, hash-on, hash-last}
+use Rattle.jobs.proofs.Blocks.{blocks-few, hash-on, hash-last}
 use Rattle.jobs.proofs.Job.hash.Statement.{statement}
 use Rattle.jobs.proofs.Job.hash.Tie as tie
 

@@ -1,10 +1,10 @@
--- `jobs::checking::checked` meets its contract: one pass over the attributes, and the verdict goes by what it tells and by the words.
+-- `jobs::checking::checked` meets its contract: one pass over the attributes, and the verdict goes by what it tells.
 -- Assumes nothing.
 use borrow.Author.Needs.{needs}
 use mathlib.Core.Path.{refl}
 use Rattle.survey.specs.Survey.{zeros}
 use Rattle.rules.proofs.Verdicts.{area-of, area-short, surveyed-of}
-use Rattle.jobs.proofs.Checked.{nak-fits, check-verdict}
+use Rattle.jobs.proofs.Checked.{nak-fits, by-verdict}
 use Rattle.jobs.proofs.checking.checked.Statement.{statement}
 use Rattle.jobs.proofs.checking.checked.Tie as tie
 
@@ -13,32 +13,23 @@ unfolding zeros
 survey-requires c κs = (search (needs, area-short), refl, refl, refl)
 
 check-requires : tie.Need-check-requires
-check-requires c κs =
-    let survey = c .before .before .before in
-    let slice = survey .before .before .before .before .before in
-    let sized = slice .before .before .before .before .before .before .before .pre .0 in
-    (sized, surveyed-of _ _ _ _ _ _ _ (area-of _ _ _ (slice .slice .ensures) sized) (survey .survey .ensures))
+check-requires c κs = (search needs, search (needs, surveyed-of, area-of))
 
 answered-requires : tie.Need-answered-requires
 answered-requires c κs =
     let check = c .before .before .before .before in
     let survey = check .before .before .before .before in
     let slice = survey .before .before .before .before .before in
-    let start = slice .before .before .before .before .before .before .before in
-    let sized = start .pre .0 in
-    ((sized, start .pre .1, start .pre .2), (surveyed-of _ _ _ _ _ _ _ (area-of _ _ _ (slice .slice .ensures) sized) (survey .survey .ensures), nak-fits _ _ _ _ _ _ (check .check .ensures) sized))
+    let start = slice .before .before .before .before .before in
+    ((start .pre .0, start .pre .1, start .pre .2), (surveyed-of _ _ _ _ _ _ _ (area-of _ _ _ (slice .slice .ensures) (start .pre .0)) (survey .survey .ensures), nak-fits _ _ _ _ _ _ (check .check .ensures) (start .pre .0)))
 
 returns : tie.Need-returns
-returns c =
-    let check = c .before .before .before .before .before .before .before in
-    let signed = check .before .before .before .before .before .before .before .before .before .before in
-    (check-verdict _ _ _ _ _ _ (signed .signed .ensures) (check .check .ensures) (c .before .before .answered .ensures .0), search needs)
+returns c = (search (needs, by-verdict), search needs)
 
 pub checked-spec : {M : Type 1} → statement M
 checked-spec =
     tie.close
     (tie.spec
-    (λ c κs. search needs)
     (λ c. search needs)
     (λ c κs. search needs)
     (λ c. search needs)

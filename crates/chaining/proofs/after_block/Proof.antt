@@ -1,9 +1,9 @@
--- `jobs::words::after_block` meets its contract: the block is hashed from the words held.
+-- `chaining::after_block` meets its contract: the block is hashed from the words held.
 -- Assumes nothing.
 use borrow.Author.Needs.{needs}
-use Rattle.jobs.proofs.Hashing.{words-after}
-use Rattle.jobs.proofs.words.after_block.Statement.{statement}
-use Rattle.jobs.proofs.words.after_block.Tie as tie
+use Rattle.chaining.proofs.Held.{words-after}
+use Rattle.chaining.proofs.after_block.Statement.{statement}
+use Rattle.chaining.proofs.after_block.Tie as tie
 
 returns : tie.Need-returns
 returns c = search (needs, words-after)

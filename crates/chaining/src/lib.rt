@@ -1,0 +1,45 @@
+// MD5's chaining words as a job holds them: four numbers there, a State where they are worked on.
+ghost use mathlib.Core.Path.{_≡_};
+ghost use Prim.Native.Nat.{_+_, _≤_, _<_};
+ghost use lib.ListN.{length};
+ghost use Rattle.octets.specs.Runs.{equalBytes};
+ghost use Rattle.md5.specs.Md5.{output};
+ghost use Rattle.signing.specs.Block.{blockCount, hashed};
+ghost use Rattle.rules.specs.Packet.{authOf};
+ghost use Rattle.chaining.specs.Words.{wordsOf, hashState};
+
+fn state_of(words: [u32; 4]) -> md5::State
+    ensures { λ r. ⌜ r ≡ hashState words ⌝ }
+{
+    md5::State {
+        a: words[0],
+        b: words[1],
+        c: words[2],
+        d: words[3],
+    }
+}
+
+pub fn words_of(q: md5::State) -> [u32; 4]
+    ensures { λ r. ⌜ r ≡ wordsOf q ⌝ }
+{
+    [q.a, q.b, q.c, q.d]
+}
+
+// The words after block k of the signed request q, from the words held.
+pub fn after_block(words: [u32; 4], q: &[u8], n: usize, secret: &[u8], k: usize) -> [u32; 4]
+    requires { ⌜ (20 ≤ n) × (n ≤ length (now q)) × (n ≤ 4096) × (length (now secret) ≤ 64) × (k < blockCount (n + length (now secret))) ⌝ }
+    ensures { λ r. ⌜ r ≡ wordsOf (hashed (hashState words) k (now (q .entry)) n (now (secret .entry))) ⌝ }
+{
+    let before = state_of(words);
+    let after = signing::hash_block(before, q, n, secret, k);
+    words_of(after)
+}
+
+// D4 by the words as held: they are the authenticator of the packet q.
+pub fn is_authenticator(words: [u32; 4], q: &[u8]) -> bool
+    requires { ⌜ 20 ≤ length (now q) ⌝ }
+    ensures { λ r. ⌜ r ≡ equalBytes (authOf (now (q .entry))) (output (hashState words)) ⌝ }
+{
+    let d = digest::bytes_of(state_of(words));
+    octets::equal16(q, 4, &d, 0)
+}
