@@ -47,7 +47,7 @@ pub extern "C" fn fbk_step_by_value(
     ensures { λ _. ⌜ now (reply .exit) ≡ stepReply (schedulerIn c) job (now (table .entry)) (now (reply .entry)) (now (store .entry)) ⌝ }
 {
     let s = layout::scheduler_in(c);
-    crate::outcome::called_out(scheduler::stepping::step(s, job as usize, table, reply, store))
+    crate::outcome::called_out(stepping::step(s, job as usize, table, reply, store))
 }
 
 // Drops a job.

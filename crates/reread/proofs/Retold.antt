@@ -47,8 +47,14 @@ module _ (n : ℕ) (q : List ℕ) (b : Bool) (is : b ≡ holds n q) (h : b ≡ t
   pub held-sized : Sized q n
   held-sized = good-sized q n (form-good q held-form) (sym (eqb-true _ _ (tests .1)))
 
+  pub held-low : 20 ≤ n
+  held-low = held-sized .low
+
+  pub held-given : n ≤ length q
+  held-given = held-sized .given
+
   pub held-long : 20 ≤ length q
-  held-long = omega (arith, held-sized .low, held-sized .given)
+  held-long = omega (arith, held-low, held-given)
 
 pub gone-passed : (secret name q : List ℕ) (address n : ℕ) (b : Bool) → b ≡ holds n q → b ≡ false → holdsPassed (settings secret address name) n q ≡ false
 unfolding holdsPassed

@@ -5,7 +5,3 @@ pub mod Founding
 pub mod Tables
 pub mod Admitting
 pub mod New
-pub mod Finishing
-pub mod Refusing
-pub mod Moving
-pub mod Steps

@@ -1,8 +1,7 @@
 // The scheduler (document 01's desk): four requests in work, each in small steps.
 pub mod opening; // opening.rt: a request comes in
-pub mod stepping; // stepping.rt: one step of a job
 pub mod table; // table.rt: session start and end
-mod work; // work.rt: which jobs are open, and all of them restarted
+pub mod work; // work.rt: which jobs are open, and all of them restarted
 
 ghost use mathlib.Core.Path.{_≡_};
 ghost use Prim.Native.Nat.{_≤_};

@@ -1,13 +1,10 @@
 -- `Job::check` meets its contract: the store is read again first.
 -- Assumes nothing.
 use borrow.Author.Needs.{needs}
-use Rattle.reread.proofs.Retold.{held-form, held-sized, held-long}
+use Rattle.reread.proofs.Retold.{held-form, held-sized, held-low, held-given, held-long}
 use Rattle.jobs.proofs.Checked.{check-held, check-gone, discarded-reply}
 use Rattle.jobs.proofs.Job.check.Statement.{statement}
 use Rattle.jobs.proofs.Job.check.Tie as tie
-
-is-authenticator-requires : tie.Need-is-authenticator-requires
-is-authenticator-requires c κs = search (needs, held-long)
 
 checked-requires : tie.Need-checked-requires
 checked-requires c κs = (search (needs, held-sized), search (needs, held-form), search needs)
@@ -21,4 +18,11 @@ returns-2 c = (search (needs, check-gone), search (needs, discarded-reply))
 pub check-spec : {M : Type 1} → statement M
 check-spec =
     tie.close
-    (tie.spec (λ c κs. search needs) is-authenticator-requires checked-requires (λ c. search needs) returns (λ c κs. search needs) returns-2)
+    (tie.spec
+    (λ c κs. search needs)
+    (λ c κs. search (needs, held-low, held-given, held-long))
+    checked-requires
+    (λ c. search needs)
+    returns
+    (λ c κs. search needs)
+    returns-2)

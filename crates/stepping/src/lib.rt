@@ -5,12 +5,12 @@ ghost use Prim.Native.Nat.{_≤_, _<_};
 ghost use lib.ListN.{length};
 ghost use Rattle.jobs.specs.Job.{JobOurs};
 ghost use Rattle.jobs.specs.Moves.{moved, movedTable, replyAfter};
 ghost use Rattle.scheduler.specs.Scheduler.{settingsOf, jobAt, openAt, restartAll, partOf, Ours};
 ghost use Rattle.scheduler.specs.Refusals.{stepRefusal};
 ghost use Rattle.scheduler.specs.Calls.{isAck, steppedAs, movedOf, stepCalled, stepTable, stepReply};
-use crate::Called;
-use crate::Outcome;
-use crate::Scheduler;
+use scheduler::Called;
+use scheduler::Outcome;
+use scheduler::Scheduler;
 
 // The scheduler after one of its requests came to an answer: an ACK restarts the jobs past Check.
 fn finished(s: Scheduler, answer: answers::Answer) -> Scheduler
@@ -22,7 +22,7 @@ fn finished(s: Scheduler, answer: answers::Answer) -> Scheduler
         answers::Answer::Discarded(_) => s,
         answers::Answer::Stale(_) => s,
         answers::Answer::Nak(_, _, _) => s,
-        answers::Answer::Ack(_, _, _) => super::work::restart_all(s),
+        answers::Answer::Ack(_, _, _) => scheduler::work::restart_all(s),
     }
 }
 
@@ -64,7 +64,7 @@ fn refusal(s: Scheduler, j: usize, t: &[u8], reply: &[u8], store: &[u8]) -> u8
     if 3 < j {
         return 7;
     }
-    if super::work::open_at(s, j) {
+    if scheduler::work::open_at(s, j) {
         return 0;
     }
     7

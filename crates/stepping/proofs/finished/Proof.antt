@@ -1,9 +1,9 @@
--- `scheduler::stepping::finished` meets its contract: an ACK restarts, the other answers leave the scheduler as it is.
+-- `stepping::finished` meets its contract: an ACK restarts, the other answers leave the scheduler as it is.
 -- Assumes nothing.
 use borrow.Author.Needs.{needs}
-use Rattle.scheduler.proofs.Finishing.{after-ack}
-use Rattle.scheduler.proofs.stepping.finished.Statement.{statement}
-use Rattle.scheduler.proofs.stepping.finished.Tie as tie
+use Rattle.stepping.proofs.Finishing.{after-ack}
+use Rattle.stepping.proofs.finished.Statement.{statement}
+use Rattle.stepping.proofs.finished.Tie as tie
 
 returns-5 : tie.Need-returns-5
 returns-5 c = search (needs, after-ack)

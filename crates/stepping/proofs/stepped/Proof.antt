@@ -1,9 +1,9 @@
--- `scheduler::stepping::stepped` meets its contract: the job is moved by its part of the store and put back.
+-- `stepping::stepped` meets its contract: the job is moved by its part of the store and put back.
 -- Assumes nothing.
 use borrow.Author.Needs.{needs}
-use Rattle.scheduler.proofs.Moving.{part-long, part-called, part-table, part-reply, moved-ours}
-use Rattle.scheduler.proofs.stepping.stepped.Statement.{statement}
-use Rattle.scheduler.proofs.stepping.stepped.Tie as tie
+use Rattle.stepping.proofs.Moving.{part-long, part-called, part-table, part-reply, moved-ours}
+use Rattle.stepping.proofs.stepped.Statement.{statement}
+use Rattle.stepping.proofs.stepped.Tie as tie
 
 worked-requires : tie.Need-worked-requires
 worked-requires c κs = (search needs, search needs, search (needs, part-long), search needs)

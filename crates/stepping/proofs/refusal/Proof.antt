@@ -1,9 +1,9 @@
--- `scheduler::stepping::refusal` meets its contract: the tests stand in the order of the numbers.
+-- `stepping::refusal` meets its contract: the tests stand in the order of the numbers.
 -- Assumes nothing.
 use borrow.Author.Needs.{needs}
-use Rattle.scheduler.proofs.Refusing.{step-table, step-reply, step-store, step-above, step-free, step-goes}
-use Rattle.scheduler.proofs.stepping.refusal.Statement.{statement}
-use Rattle.scheduler.proofs.stepping.refusal.Tie as tie
+use Rattle.stepping.proofs.Refusing.{step-table, step-reply, step-store, step-above, step-free, step-goes}
+use Rattle.stepping.proofs.refusal.Statement.{statement}
+use Rattle.stepping.proofs.refusal.Tie as tie
 
 returns : tie.Need-returns
 returns c = search (needs, step-table)

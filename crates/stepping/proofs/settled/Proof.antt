@@ -1,9 +1,9 @@
--- `scheduler::stepping::settled` meets its contract: the moved job is put back, and an answer is finished with.
+-- `stepping::settled` meets its contract: the moved job is put back, and an answer is finished with.
 -- Assumes nothing.
 use borrow.Author.Needs.{needs}
-use Rattle.scheduler.proofs.Finishing.{goes-on, comes-to}
-use Rattle.scheduler.proofs.stepping.settled.Statement.{statement}
-use Rattle.scheduler.proofs.stepping.settled.Tie as tie
+use Rattle.stepping.proofs.Finishing.{goes-on, comes-to}
+use Rattle.stepping.proofs.settled.Statement.{statement}
+use Rattle.stepping.proofs.settled.Tie as tie
 
 returns : tie.Need-returns
 returns c = search (needs, goes-on)

@@ -1,9 +1,9 @@
--- `scheduler::stepping::worked` meets its contract: the job is one of the four, and of secret and name the bytes that count are lent.
+-- `stepping::worked` meets its contract: the job is one of the four, and of secret and name the bytes that count are lent.
 -- Assumes nothing.
 use borrow.Author.Needs.{needs}
-use Rattle.scheduler.proofs.Moving.{secret-cut, name-cut, secret-short, read-ours, read-moved, read-table, job-ours}
-use Rattle.scheduler.proofs.stepping.worked.Statement.{statement}
-use Rattle.scheduler.proofs.stepping.worked.Tie as tie
+use Rattle.stepping.proofs.Moving.{secret-cut, name-cut, secret-short, read-ours, read-moved, read-table, job-ours}
+use Rattle.stepping.proofs.worked.Statement.{statement}
+use Rattle.stepping.proofs.worked.Tie as tie
 
 step-requires : tie.Need-step-requires
 step-requires c κs =

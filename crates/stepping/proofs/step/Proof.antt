@@ -1,10 +1,10 @@
--- `scheduler::stepping::step` meets its contract: a refusal comes before any work.
+-- `stepping::step` meets its contract: a refusal comes before any work.
 -- Assumes nothing.
 use borrow.Author.Needs.{needs}
-use Rattle.scheduler.proofs.Refusing.{goes-room, goes-long, goes-below}
-use Rattle.scheduler.proofs.Steps.{refused-called, refused-table, refused-reply, goes-called, goes-table, goes-reply}
-use Rattle.scheduler.proofs.stepping.step.Statement.{statement}
-use Rattle.scheduler.proofs.stepping.step.Tie as tie
+use Rattle.stepping.proofs.Refusing.{goes-room, goes-long, goes-below}
+use Rattle.stepping.proofs.Steps.{refused-called, refused-table, refused-reply, goes-called, goes-table, goes-reply}
+use Rattle.stepping.proofs.step.Statement.{statement}
+use Rattle.stepping.proofs.step.Tie as tie
 
 returns : tie.Need-returns
 returns c = (search (needs, refused-called), (search (needs, refused-table), (search (needs, refused-reply), search needs)))

@@ -1,0 +1,4 @@
+pub mod Finishing
+pub mod Refusing
+pub mod Moving
+pub mod Steps
