@@ -7,10 +7,12 @@ use Prim.Native.Nat.{ℕ, _≤_, _<_}
 use native.Mathlib.Omega.{arith}
 use borrow.Author.Tests.{eq-eqb, ne-eqb}
 use lib.IntN.{ℤ}
-use lib.ListN.{getD}
+use lib.ListN.{getD, replicate}
 use mir.Syntax.{w8}
 use mir.Val.{Fits}
-use Rattle.slots.specs.Slot.{slotCount, slot, live}
+use Rattle.slots.specs.Slot.{slotCount, slot}
+use Rattle.sessions.specs.Change.{changed}
+use Rattle.sessions.specs.Change as S
 use Rattle.causes.specs.declared.Cause.{Cause}
 use Rattle.causes.proofs.Passed.{filter-first}
 use Rattle.rules.specs.Packet.{codeOf, lengthOf, areaOf}
@@ -20,8 +22,8 @@ use Rattle.rules.specs.Discards.{signedBy}
 use Rattle.reply.specs.Reply.{bodyOf, replyOf, replyLength}
 use Rattle.replies.proofs.Back.{reply-identifier, reply-area}
 use Rattle.effects.specs.Matching.{matchesIn}
-use Rattle.effects.specs.Changes.{changeMatching}
-use Rattle.effects.proofs.Outcomes.{slot-other, ended-after}
+use Rattle.effects.specs.Changes.{alterationOf, changeOf, changeMatching}
+use Rattle.effects.proofs.Outcomes.{slot-matching, slot-other}
 use Rattle.effects.proofs.Altered as E
 use Rattle.answers.specs.declared.Answer as D
 use Rattle.answers.specs.declared.Answer.the-variants as A
@@ -93,13 +95,19 @@ module _ (g : Settings) (t b p : List ℕ) (clock : ℕ) where
     after : (code : ℕ) → codeOf p ≡ code → handleTable g t b p clock ≡ changeMatching code (areaOf p) t
     after code e = table-of (A.Ack m skew n) ack ∙ rw e
 
-    ended : codeOf p ≡ 40 → live (slot k (handleTable g t b p clock)) ≡ false
-    ended e = rw (after 40 e) (ended-after (areaOf p) t k l h)
+    ended : codeOf p ≡ 40 → slot k (handleTable g t b p clock) ≡ replicate 192 0
+    unfolding changeOf changed
+    ended e = rw (after 40 e) (slot-matching 40 (areaOf p) t k l h)
+
+    written : slot k (changeMatching 43 (areaOf p) t) ≡ S.altered (areaOf p) (alterationOf (areaOf p)) (slot k t)
+    unfolding changeOf changed
+    written = slot-matching 43 (areaOf p) t k l h
 
     altered-to : Altered (areaOf p) (slot k t) (slot k (changeMatching 43 (areaOf p) t))
     altered-to =
         let no-cause = acked g t p clock m n skew b ack .uncaused-by in
         record {
+          written = written;
           timeout = λ a e y. E.timeout-after (areaOf p) t k l h a e (fits-byte (areaOf p) y);
           timeout-same = λ e. E.timeout-same (areaOf p) t k l h e;
           idle = λ a e y. E.idle-after (areaOf p) t k l h a e (fits-byte (areaOf p) y);

@@ -45,12 +45,13 @@ module _ (s : D.Scheduler) (t b store : List ℕ) (j : ℕ) where
   abbrev Refusing : C.Called → List ℕ → List ℕ → ℕ → Type 0
   Refusing c u v n = (member n (1 ∷ 4 ∷ 5 ∷ 7 ∷ []) ≡ true) × (n ≡ number) × (c .scheduler ≡ s) × (u ≡ t) × (v ≡ b)
 
-  abbrev Quiet : C.Called → List ℕ → List ℕ → A′.Answer → Type 0
-  Quiet c u v (A.Refused n) = Unit {0}
-  Quiet c u v (A.Discarded d) = (member d (1 ∷ 4 ∷ 5 ∷ 6 ∷ []) ≡ true) × (c .scheduler ≡ withJob s j freeJob) × (u ≡ t) × (v ≡ b)
-  Quiet c u v (A.Stale k) = (c .scheduler ≡ withJob s j freeJob) × (u ≡ t) × (v ≡ b)
-  Quiet c u v (A.Nak c′ k n) = Unit {0}
-  Quiet c u v (A.Ack m k n) = Unit {0}
+  -- e is how the job's move ended
+  abbrev Quiet : E.Ending → C.Called → List ℕ → List ℕ → A′.Answer → Type 0
+  Quiet e c u v (A.Refused n) = Unit {0}
+  Quiet e c u v (A.Discarded d) = (member d (1 ∷ 4 ∷ 5 ∷ 6 ∷ []) ≡ true) × (e ≡ K.Done (A.Discarded d)) × (c .scheduler ≡ withJob s j freeJob) × (u ≡ t) × (v ≡ b)
+  Quiet e c u v (A.Stale k) = (e ≡ K.Done (A.Stale k)) × (c .scheduler ≡ withJob s j freeJob) × (u ≡ t) × (v ≡ b)
+  Quiet e c u v (A.Nak c′ k n) = Unit {0}
+  Quiet e c u v (A.Ack m k n) = Unit {0}
 
   abbrev shown : Bool → M.Moved → E.Ending → C.Called
   shown f m e = cond f (steppedAs s j m e) (called s (O.Refused number))
@@ -68,11 +69,11 @@ module _ (s : D.Scheduler) (t b store : List ℕ) (j : ℕ) where
   freed m h = ap (withJob s j) h
 
   quiet-by : (f : Bool) (m : M.Moved) (e : E.Ending) (u : List ℕ) → QuitAs (m .job) t u e
-      → WhenDone (Quiet (shown f m e) (cond f u t) (replied f e)) (shown f m e .outcome)
+      → WhenDone (Quiet e (shown f m e) (cond f u t) (replied f e)) (shown f m e .outcome)
   quiet-by true m K.Going u h = tt
   quiet-by true m (K.Done (A.Refused n)) u h = tt
-  quiet-by true m (K.Done (A.Discarded d)) u h = (h .0, freed m (h .1), h .2, refl)
-  quiet-by true m (K.Done (A.Stale k)) u h = (freed m (h .0), h .1, refl)
+  quiet-by true m (K.Done (A.Discarded d)) u h = (h .0, refl, freed m (h .1), h .2, refl)
+  quiet-by true m (K.Done (A.Stale k)) u h = (refl, freed m (h .0), h .1, refl)
   quiet-by true m (K.Done (A.Nak c k n)) u h = tt
   quiet-by true m (K.Done (A.Ack i k n)) u h = tt
   quiet-by false m e u h = tt
@@ -87,12 +88,12 @@ module _ (s : D.Scheduler) (t b store : List ℕ) (j : ℕ) where
   unfolding stepCalled stepTable stepReply
   step-refused = refused-by (eqb number 0) (movedOf s j t store) ending after refl
 
-  step-quiet : WhenDone (Quiet (stepCalled s j t b store) (stepTable s j t b store) (stepReply s j t b store)) (stepCalled s j t b store .outcome)
+  step-quiet : WhenDone (Quiet ending (stepCalled s j t b store) (stepTable s j t b store) (stepReply s j t b store)) (stepCalled s j t b store .outcome)
   unfolding stepCalled stepTable stepReply
   step-quiet = quiet-by (eqb number 0) (movedOf s j t store) ending after (move-quits (settingsOf s) (jobAt (s .jobs) j) (partOf j store) t)
 
   pub step-refusals : (n : ℕ) → stepCalled s j t b store .outcome ≡ O.Refused n → Refusing (stepCalled s j t b store) (stepTable s j t b store) (stepReply s j t b store) n
   step-refusals n e = subst (WhenRefused (Refusing (stepCalled s j t b store) (stepTable s j t b store) (stepReply s j t b store))) e step-refused
 
-  pub step-answers : (a : A′.Answer) → stepCalled s j t b store .outcome ≡ O.Done a → Quiet (stepCalled s j t b store) (stepTable s j t b store) (stepReply s j t b store) a
-  step-answers a e = subst (WhenDone (Quiet (stepCalled s j t b store) (stepTable s j t b store) (stepReply s j t b store))) e step-quiet
+  pub step-answers : (a : A′.Answer) → stepCalled s j t b store .outcome ≡ O.Done a → Quiet ending (stepCalled s j t b store) (stepTable s j t b store) (stepReply s j t b store) a
+  step-answers a e = subst (WhenDone (Quiet ending (stepCalled s j t b store) (stepTable s j t b store) (stepReply s j t b store))) e step-quiet

@@ -1,4 +1,4 @@
--- What an answer tells: whether there is a reply, its length, and how many sessions were changed.
+-- What an answer tells: whether there is a reply, and its length.
 -- Assumes nothing.
 use mathlib.Core.Bool.{Bool, true, false}
 use Prim.Native.Nat.{ℕ}

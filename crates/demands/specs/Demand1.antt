@@ -25,12 +25,13 @@ use Rattle.requests.specs.declared.Written.the-variants.{NotWritten}
 use Rattle.requests.specs.declared.Checked.the-variants.{NotChecked}
 use Rattle.requests.specs.Writer.{Draft, writeRefusal, writeAnswer, writeOutput}
 use Rattle.requests.specs.ReplyCheck.{checkAnswer}
+use Rattle.jobs.specs.declared.Ending.the-variants as K
 use Rattle.jobs.specs.Job.{freeJob}
 use Rattle.scheduler.specs.declared.Scheduler as D
 use Rattle.scheduler.specs.declared.Outcome.the-variants.{Refused, Discarded, Done}
 use Rattle.scheduler.specs.Scheduler.{openAt, withJob}
 use Rattle.scheduler.specs.Refusals.{makeRefusal, openRefusal, stepRefusal}
-use Rattle.scheduler.specs.Calls.{openCalled, openStore, stepCalled, stepTable, stepReply, dropCalled, startCalled, endCalled}
+use Rattle.scheduler.specs.Calls.{openCalled, openStore, movedOf, stepCalled, stepTable, stepReply, dropCalled, startCalled, endCalled}
 
 -- whole requests
 pub record Handling (g : Settings) (t b p : List ℕ) (clock : ℕ) : Type 0 where
@@ -59,11 +60,12 @@ pub record Scheduling (s : D.Scheduler) (t b store : List ℕ) : Type 0 where
   pub step-refusals : (j n : ℕ) → stepCalled s j t b store .outcome ≡ Refused n
       → (member n (1 ∷ 4 ∷ 5 ∷ 7 ∷ []) ≡ true) × (n ≡ stepRefusal (openAt (s .jobs)) (length store) j t b)
       × (stepCalled s j t b store .scheduler ≡ s) × (stepTable s j t b store ≡ t) × (stepReply s j t b store ≡ b)
-  -- a discard by a step frees its job
+  -- a discard by a step is that of the job's move, and frees its job
   pub step-discards : (j d : ℕ) → stepCalled s j t b store .outcome ≡ Done (A.Discarded d)
-      → (member d (1 ∷ 4 ∷ 5 ∷ 6 ∷ []) ≡ true) × (stepCalled s j t b store .scheduler ≡ withJob s j freeJob) × (stepTable s j t b store ≡ t) × (stepReply s j t b store ≡ b)
+      → (member d (1 ∷ 4 ∷ 5 ∷ 6 ∷ []) ≡ true) × (movedOf s j t store .ending ≡ K.Done (A.Discarded d))
+      × (stepCalled s j t b store .scheduler ≡ withJob s j freeJob) × (stepTable s j t b store ≡ t) × (stepReply s j t b store ≡ b)
   pub step-stale : (j : ℕ) (skew : ℤ) → stepCalled s j t b store .outcome ≡ Done (A.Stale skew)
-      → (stepCalled s j t b store .scheduler ≡ withJob s j freeJob) × (stepTable s j t b store ≡ t) × (stepReply s j t b store ≡ b)
+      → (movedOf s j t store .ending ≡ K.Done (A.Stale skew)) × (stepCalled s j t b store .scheduler ≡ withJob s j freeJob) × (stepTable s j t b store ≡ t) × (stepReply s j t b store ≡ b)
   pub drop-refusals : (j n : ℕ) → dropCalled s j .outcome ≡ Refused n → (n ≡ 7) × (dropCalled s j .scheduler ≡ s)
   pub start-refusals : (x : Session) (n : ℕ) → startCalled s x t .outcome ≡ Refused n
       → (member n (1 ∷ 8 ∷ 9 ∷ 10 ∷ []) ≡ true) × (insertAnswer x t ≡ NotInserted n) × (startCalled s x t .scheduler ≡ s) × (insertTable x t ≡ t)

@@ -7,7 +7,7 @@ use mathlib.Core.List.{List, _++_}
 use mathlib.Core.Path.{_≡_}
 use Prim.Native.Nat.{ℕ, _+_, _≤_, _<_}
 use lib.IntN.{ℤ}
-use lib.ListN.{getD}
+use lib.ListN.{getD, replicate}
 use Rattle.octets.specs.Numbers.{be}
 use Rattle.octets.specs.Runs.{write}
 use Rattle.attributes.specs.declared.Attribute.{Attribute}
@@ -15,6 +15,7 @@ use Rattle.attributes.specs.declared.Search.the-variants.{At, Missing}
 use Rattle.attributes.specs.Attributes.{attributes, valueOf, firstOf, kindIs}
 use Rattle.signing.specs.Signing.{zeros}
 use Rattle.slots.specs.Slot.{slotCount, slot, live, nasPort, framedAddress, sessionTimeout, idleTimeout, userName, sessionId, callingStation, filterId}
+use Rattle.sessions.specs.Change.{altered}
 use Rattle.causes.specs.declared.Cause.{Cause}
 use Rattle.causes.specs.declared.Cause.the-variants.{NoCause}
 use Rattle.rules.specs.Packet.{codeOf, identifierOf, lengthOf, areaOf}
@@ -23,6 +24,7 @@ use Rattle.rules.specs.Discards.{formOf, signedBy, badMac}
 use Rattle.rules.specs.Verdict.{verdictOf}
 use Rattle.reply.specs.Reply.{stateOf, causeOf, proxiesOf, macPart, replyMac, replyOf}
 use Rattle.effects.specs.Matching.{matchesIn, matchCount}
+use Rattle.effects.specs.Changes.{alterationOf}
 use Rattle.answers.specs.declared.Answer.the-variants.{Refused, Nak, Ack}
 use Rattle.handler.specs.Refusals.{refusalOf}
 use Rattle.handler.specs.Handle.{answerOf, handleAnswer, handleTable, handleReply}
@@ -36,6 +38,9 @@ Bytes l = (i : ℕ) → getD l i 0 < 256
 
 -- exactly the named fields of a session have the new values: s is the slot before, s′ after; the numbers with all 32 bits
 pub record Altered (area s s′ : List ℕ) : Type 0 where
+  -- its bytes: only the fields that the request names are written
+  pub written : s′ ≡ altered area (alterationOf area) s
+  -- and so its fields
   pub timeout : (a : Attribute) → firstOf (kindIs 27) (attributes area) ≡ At a → Bytes area → sessionTimeout s′ ≡ be (a .at + 2) 4 area
   pub timeout-same : firstOf (kindIs 27) (attributes area) ≡ Missing → sessionTimeout s′ ≡ sessionTimeout s
   pub idle : (a : Attribute) → firstOf (kindIs 28) (attributes area) ≡ At a → Bytes area → idleTimeout s′ ≡ be (a .at + 2) 4 area
@@ -72,9 +77,9 @@ pub record Demand2 (g : Settings) (t b p : List ℕ) (clock : ℕ) : Type 0 wher
   -- an ACK: the count is that of the matching live slots, and all others stay
   pub count : (m : ℕ) (skew : ℤ) (n : ℕ) → handleAnswer g t b p clock ≡ Ack m skew n → m ≡ matchCount (areaOf p) t
   pub others : (k : ℕ) → k < slotCount t → matchesIn (areaOf p) t k ≡ false → slot k (handleTable g t b p clock) ≡ slot k t
-  -- after an ACK of a Disconnect no matching session is live
+  -- after an ACK of a Disconnect the 192 bytes of each matching session are zero
   pub ended : (m : ℕ) (skew : ℤ) (n : ℕ) → handleAnswer g t b p clock ≡ Ack m skew n → codeOf p ≡ 40
-      → (k : ℕ) → k < slotCount t → matchesIn (areaOf p) t k ≡ true → live (slot k (handleTable g t b p clock)) ≡ false
+      → (k : ℕ) → k < slotCount t → matchesIn (areaOf p) t k ≡ true → slot k (handleTable g t b p clock) ≡ replicate 192 0
   -- after an ACK of a CoA exactly the named fields of the matching sessions have the new values
   pub altered : (m : ℕ) (skew : ℤ) (n : ℕ) → handleAnswer g t b p clock ≡ Ack m skew n → codeOf p ≡ 43
       → (k : ℕ) → k < slotCount t → matchesIn (areaOf p) t k ≡ true → Altered (areaOf p) (slot k t) (slot k (handleTable g t b p clock))

@@ -68,6 +68,7 @@ fn fresh(secret: &[u8], address: u32, name: &[u8]) -> Scheduler
 // R2, R3, or a scheduler.
 pub fn make(secret: &[u8], address: u32, name: &[u8]) -> Made
     ensures { λ r. ⌜ r ≡ makeAnswer (settings (now (secret .entry)) address (now (name .entry))) ⌝ }
+    ensures { λ r. ⌜ ((r .refusal ≡ 0 → Ours (r .scheduler))) ⌝ }
 {
     if rules::limits::bad_secret(secret) {
         return Made {

@@ -26,7 +26,7 @@ use Rattle.answers.specs.declared.Answer.the-variants as A
 use Rattle.handler.specs.Refusals.{refusalOf}
 use Rattle.jobs.specs.declared.Job as B
 use Rattle.jobs.specs.declared.Stage.the-variants.{Hash, Check}
-use Rattle.jobs.specs.Job.{wordsOf, stateOf}
+use Rattle.chaining.specs.Words.{wordsOf, hashState}
 use Rattle.reread.specs.Reread.{holds}
 use Rattle.jobs.specs.Moves.{going, hashJob, wordsSigned, checkedAs, checkMove}
 use Rattle.serial.proofs.Same.{SamePacket, form-sized, same-holds}
@@ -37,9 +37,9 @@ use Rattle.serial.proofs.Holding.{blocksOf, wordsAt, Place, Right, ends
 module _ (g : Settings) (p : List ℕ) (clock : ℕ) (q t b : List ℕ) (open-to : refusalOf g t b ≡ 0) (good : formOf p ≡ 0) (same : SamePacket p q) where
   -- ---- Hash
 
-  next-words : (k : ℕ) (w : List ℕ) → w ≡ wordsAt g p k → wordsOf (hashed (stateOf w) k q (lengthOf p) (g .secret)) ≡ wordsAt g p (suc k)
+  next-words : (k : ℕ) (w : List ℕ) → w ≡ wordsAt g p k → wordsOf (hashed (hashState w) k q (lengthOf p) (g .secret)) ≡ wordsAt g p (suc k)
   next-words k w e =
-      ap (λ (v : List ℕ). wordsOf (hashed (stateOf v) k q (lengthOf p) (g .secret))) e
+      ap (λ (v : List ℕ). wordsOf (hashed (hashState v) k q (lengthOf p) (g .secret))) e
       ∙ ap wordsOf (same-hashed (lengthOf p) q p (same .alike) (g .secret) (hashedTo k p (lengthOf p) (g .secret)) k)
       ∙ ap wordsOf (sym (blocks-more k p (lengthOf p) (g .secret)))
 
@@ -71,7 +71,7 @@ module _ (g : Settings) (p : List ℕ) (clock : ℕ) (q t b : List ℕ) (open-to
   unfolding wordsSigned signedBy
   signed-words j e =
       let z : Sized p (lengthOf p) = form-sized p good in
-      ap (λ (w : List ℕ). equalBytes (authOf q) (output (stateOf w))) e
+      ap (λ (w : List ℕ). equalBytes (authOf q) (output (hashState w))) e
       ∙ ap (equalBytes (authOf q)) (blocks-all p (lengthOf p) (g .secret) (z .low) (z .given))
       ∙ ap (λ (a : List ℕ). equalBytes a (authenticator zeros p (lengthOf p) (g .secret))) (same .auth)
 

@@ -25,7 +25,8 @@ use Rattle.jobs.specs.declared.Stage.the-variants.{Free, Hash, Check, Match}
 use Rattle.jobs.specs.declared.Ending as E
 use Rattle.jobs.specs.declared.Ending.the-variants as K
 use Rattle.jobs.specs.declared.Moved as M
-use Rattle.jobs.specs.Job.{freeJob, wordsOf}
+use Rattle.chaining.specs.Words.{wordsOf}
+use Rattle.jobs.specs.Job.{freeJob}
 use Rattle.jobs.specs.Moves.{done}
 use Rattle.scheduler.specs.Calls.{isAck}
 use Rattle.serial.proofs.Same.{SamePacket}

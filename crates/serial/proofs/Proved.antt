@@ -5,9 +5,13 @@ use mathlib.Core.Bool.{Bool, true, false}
 use mathlib.Core.List.{List, _++_}
 use Prim.Native.Nat.{ℕ, _≤_}
 use native.Mathlib.Omega.{arith}
+use Rattle.rules.specs.Settings.{Settings}
 use Rattle.scheduler.specs.declared.Scheduler as D
-use Rattle.scheduler.specs.Scheduler.{openAt}
+use Rattle.scheduler.specs.Scheduler.{settingsOf, openAt}
+use Rattle.scheduler.specs.Refusals.{makeRefusal}
+use Rattle.scheduler.specs.Making.{makeAnswer}
 use Rattle.scheduler.specs.Runs.{Call, World, run}
+use Rattle.scheduler.proofs.New.{made-new, made-jobs, made-settings, made-ours}
 use Rattle.serial.specs.Serial.{Serial, notedAt}
 use Rattle.serial.specs.Demand3.{quiet, steps, world, serially, New, Demand3}
 use Rattle.serial.proofs.Potential.{potential-most, all-finished}
@@ -29,9 +33,13 @@ module _ (s : D.Scheduler) (new : New s) (cs ds : List Call) (t store : List ℕ
       let o = notes-open (run (cs ++ ds) (world s t store)) (serially (cs ++ ds) s t store) (whole s new (cs ++ ds) t store) in
       ap (λ (f : ℕ → Bool). f j) (sym o) ∙ rw (run-behind cs ds (world s t store)) (finishes q h j)
 
+made : (g : Settings) → makeRefusal g ≡ 0 → New (makeAnswer g .scheduler) × (settingsOf (makeAnswer g .scheduler) ≡ g)
+made g h = rw (made-new g h) (record { ours = made-ours g h; free = made-jobs g }, made-settings g h)
+
 pub demand3 : Demand3
 demand3 =
     record {
+      made = made;
       answers = λ s new cs t store. whole s new cs t store .outs-are;
       table = λ s new cs t store. ap (λ (x : Serial). x .table) (sym (whole s new cs t store .serial-is));
       ends = finishes;

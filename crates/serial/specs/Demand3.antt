@@ -6,11 +6,14 @@ use mathlib.Core.List.{List, [], _∷_, _++_, map}
 use mathlib.Core.Path.{_≡_}
 use Prim.Native.Nat.{ℕ, _+_, _≤_}
 use lib.ListN.{length, replicate}
+use Rattle.rules.specs.Settings.{Settings}
 use Rattle.jobs.specs.Job.{freeJob}
 use Rattle.scheduler.specs.declared.Scheduler as D
 use Rattle.scheduler.specs.declared.Outcome as O
 use Rattle.scheduler.specs.declared.Outcome.the-variants.{Refused, Discarded, Opened, Going, Done, Dropped, Started, Ended}
 use Rattle.scheduler.specs.Scheduler.{settingsOf, openAt, Ours}
+use Rattle.scheduler.specs.Refusals.{makeRefusal}
+use Rattle.scheduler.specs.Making.{makeAnswer}
 use Rattle.scheduler.specs.Runs.{Call, World, Out, run}
 use Rattle.serial.specs.Serial.{Kept, notedAt, start, keep}
 
@@ -76,6 +79,8 @@ pub record New (s : D.Scheduler) : Type 0 where
   pub free : s .jobs ≡ replicate 4 freeJob
 
 pub record Demand3 : Type 0 where
+  -- what making gives, where it does not refuse, is newly made, and holds what it was made with
+  pub made : (g : Settings) → makeRefusal g ≡ 0 → New (makeAnswer g .scheduler) × (settingsOf (makeAnswer g .scheduler) ≡ g)
   -- every answer along the way and every step's reply buffer
   pub answers : (s : D.Scheduler) → New s → (cs : List Call) (t store : List ℕ) → run cs (world s t store) .outs ≡ serially cs s t store .outs
   -- after the list the table
