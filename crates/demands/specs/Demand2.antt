@@ -22,7 +22,7 @@ use Rattle.rules.specs.Packet.{codeOf, identifierOf, lengthOf, areaOf}
 use Rattle.rules.specs.Settings.{Settings}
 use Rattle.rules.specs.Discards.{formOf, signedBy, badMac}
 use Rattle.rules.specs.Verdict.{verdictOf}
-use Rattle.reply.specs.Reply.{stateOf, causeOf, proxiesOf, macPart, replyMac, replyOf}
+use Rattle.reply.specs.Reply.{statePart, causePart, proxyPart, macPart, replyMac, replyOf}
 use Rattle.effects.specs.Matching.{matchesIn, matchCount}
 use Rattle.effects.specs.Changes.{alterationOf}
 use Rattle.answers.specs.declared.Answer.the-variants.{Refused, Nak, Ack}
@@ -57,7 +57,7 @@ pub record Altered (area s s′ : List ℕ) : Type 0 where
 -- a reply to the request p carries the first State, Error-Cause on NAK, every Proxy-State in order, and type 80 if the request had one
 pub record Carries (secret p r : List ℕ) (c : Cause) : Type 0 where
   pub identifier : identifierOf r ≡ identifierOf p
-  pub body : areaOf r ≡ (stateOf (areaOf p) ++ causeOf c ++ proxiesOf (areaOf p)) ++ macPart p (replyMac secret p c)
+  pub body : areaOf r ≡ (statePart (areaOf p) ++ causePart c ++ proxyPart (areaOf p)) ++ macPart p (replyMac secret p c)
   -- it passes our reply check
   pub passes : failureOf secret p r ≡ 0
 

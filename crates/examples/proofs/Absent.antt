@@ -14,7 +14,7 @@ use Rattle.signing.specs.Signing.{zeros}
 use Rattle.causes.specs.declared.Cause.{Cause}
 use Rattle.rules.specs.Packet.{areaOf}
 use Rattle.rules.specs.Discards.{wrongMac, badMac}
-use Rattle.reply.specs.Reply.{ifFound, stateOf, causeOf, proxiesOf, bodyOf, macPart, replyLength}
+use Rattle.reply.specs.Reply.{ifFound, statePart, causePart, proxyPart, bodyOf, macPart, replyLength}
 
 not-found : (x : Search) → found x ≡ false → x ≡ Missing
 not-found (At a) h = absurd (true≢false h)
@@ -34,15 +34,15 @@ module _ (p : List ℕ) (no-80 : any (kindIs 80) (attributes (areaOf p)) ≡ fal
   no-part value = rw no-80
 
 module _ (p : List ℕ) (no-24 : any (kindIs 24) (attributes (areaOf p)) ≡ false) where
-  no-state : stateOf (areaOf p) ≡ []
-  unfolding stateOf
+  no-state : statePart (areaOf p) ≡ []
+  unfolding statePart
   no-state = ap (ifFound (areaOf p)) (not-found (firstOf (kindIs 24) (attributes (areaOf p))) no-24)
 
-  pub body-rest : (c : Cause) → bodyOf p c ≡ causeOf c ++ proxiesOf (areaOf p)
+  pub body-rest : (c : Cause) → bodyOf p c ≡ causePart c ++ proxyPart (areaOf p)
   unfolding bodyOf
   body-rest c = rw no-state
 
 pub length-rest : (p : List ℕ) (c : Cause) → any (kindIs 24) (attributes (areaOf p)) ≡ false → any (kindIs 80) (attributes (areaOf p)) ≡ false
-    → replyLength p c ≡ 20 + (length (causeOf c) + length (proxiesOf (areaOf p)))
+    → replyLength p c ≡ 20 + (length (causePart c) + length (proxyPart (areaOf p)))
 unfolding replyLength
-length-rest p c h g = rw (body-rest p h c, no-part p g zeros) (omega (arith, length-append (causeOf c) (proxiesOf (areaOf p))))
+length-rest p c h g = rw (body-rest p h c, no-part p g zeros) (omega (arith, length-append (causePart c) (proxyPart (areaOf p))))

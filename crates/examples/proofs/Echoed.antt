@@ -22,7 +22,7 @@ use Rattle.rules.specs.Settings.{Settings}
 use Rattle.rules.specs.Discards.{badLength, badCode, badAttributes, formOf, signedBy}
 use Rattle.rules.specs.Verdict.{nakOr, freshVerdict, checkVerdict, verdictOf}
 use Rattle.rules.proofs.Forms.{good-sized}
-use Rattle.reply.specs.Reply.{asCame, causeOf, proxiesIn, proxiesOf, replyLength}
+use Rattle.reply.specs.Reply.{asCame, causePart, proxiesIn, proxyPart, replyLength}
 use Rattle.replies.proofs.Sums.{first-size}
 use Rattle.replies.proofs.Judged.{stamp-six}
 use Rattle.answers.specs.declared.Answer.the-variants.{Nak}
@@ -47,12 +47,12 @@ all-whole s [] f = refl
 all-whole s (a ∷ l) f =
     one-more (kindIs 33 a) (asCame s a) (proxiesIn s l) (a .size) (bytesOfType 33 l) (came-whole s a (f a (List·Memᴰ·head refl))) (all-whole s l (λ b m. f b (List·Memᴰ·tail m)))
 
-length-proxies : (s : List ℕ) → length (proxiesOf s) ≡ bytesOfType 33 (attributes s)
-unfolding proxiesOf
+length-proxies : (s : List ℕ) → length (proxyPart s) ≡ bytesOfType 33 (attributes s)
+unfolding proxyPart
 length-proxies s = all-whole s (attributes s) (λ a m. member-stands s 0 a m)
 
-length-cause : length (causeOf MissingAttribute) ≡ 6
-unfolding causeOf
+length-cause : length (causePart MissingAttribute) ≡ 6
+unfolding causePart
 length-cause = ap (λ (k : ℕ). suc (suc k)) (length-beBytes 4 _)
 
 -- ---- the packet

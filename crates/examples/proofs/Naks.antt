@@ -19,7 +19,7 @@ use Rattle.rules.specs.Packet.{codeOf, identifierOf, areaOf}
 use Rattle.rules.specs.Settings.{Settings}
 use Rattle.rules.specs.Discards.{signedBy}
 use Rattle.rules.specs.Verdict.{verdictOf}
-use Rattle.reply.specs.Reply.{causeOf, proxiesOf, bodyOf, replyLength, headOf, replyWith, replyMac, replyAuth, replyOf}
+use Rattle.reply.specs.Reply.{causePart, proxyPart, bodyOf, replyLength, headOf, replyWith, replyMac, replyAuth, replyOf}
 use Rattle.reply.proofs.Lengths.{length-replyAuth}
 use Rattle.effects.specs.Matching.{matchCount}
 use Rattle.answers.specs.declared.Answer.the-variants as A
@@ -49,13 +49,13 @@ not-refused p t v r false skew n h = let o : _≡_ {A = ℕ} 0 1 = cc in absurd 
 
 -- ---- the bytes
 
-cause-503 : causeOf SessionNotFound ≡ 0x65 ∷ 0x06 ∷ 0x00 ∷ 0x00 ∷ 0x01 ∷ 0xF7 ∷ []
-unfolding causeOf errorCause beBytes
+cause-503 : causePart SessionNotFound ≡ 0x65 ∷ 0x06 ∷ 0x00 ∷ 0x00 ∷ 0x01 ∷ 0xF7 ∷ []
+unfolding causePart errorCause beBytes
 cause-503 = refl
 
 module _ (g : Settings) (t b p : List ℕ) (clock : ℕ) (skew : ℤ) (n : ℕ) (told : handleAnswer g t b p clock ≡ A.Nak SessionNotFound skew n)
     (no-24 : any (kindIs 24) (attributes (areaOf p)) ≡ false) (no-80 : any (kindIs 80) (attributes (areaOf p)) ≡ false)
-    (proxies : proxiesOf (areaOf p) ≡ 0x21 ∷ 0x03 ∷ 0x41 ∷ []) where
+    (proxies : proxyPart (areaOf p) ≡ 0x21 ∷ 0x03 ∷ 0x41 ∷ []) where
   short : replyLength p SessionNotFound ≡ 29
   short = length-rest p SessionNotFound no-24 no-80 ∙ rw (cause-503, proxies)
 

@@ -19,7 +19,7 @@ use Rattle.rules.specs.Packet.{codeOf, identifierOf, lengthOf, areaOf}
 use Rattle.rules.specs.Settings.{Settings}
 use Rattle.rules.specs.Discards.{badLength, badCode, signedBy}
 use Rattle.rules.specs.Verdict.{freshVerdict, stampVerdict, verdictOf}
-use Rattle.reply.specs.Reply.{proxiesOf, replyAuth}
+use Rattle.reply.specs.Reply.{proxyPart, replyAuth}
 use Rattle.answers.specs.declared.Answer.the-variants.{Nak}
 use Rattle.handler.specs.Refusals.{refusalOf}
 use Rattle.handler.specs.Handle.{handleAnswer, handleReply}
@@ -59,7 +59,7 @@ pub record Marked (g : Settings) (signed : Bool) (p : List ℕ) (clock : ℕ) : 
   -- A whole NAK 503 to Disconnect identifier 7 with Proxy-State 41 (one hex byte), no State, no 80: 2A 07 00 1D, sixteen authenticator bytes, 65 06 00 00 01 F7 21 03 41.
   -- It stands at the start of the reply buffer b, and the answer tells its 29 bytes
   pub session-not-found : (t b : List ℕ) (skew : ℤ) (n : ℕ) → handleAnswer g t b p clock ≡ Nak SessionNotFound skew n
-      → codeOf p ≡ 40 → identifierOf p ≡ 7 → proxiesOf (areaOf p) ≡ 0x21 ∷ 0x03 ∷ 0x41 ∷ []
+      → codeOf p ≡ 40 → identifierOf p ≡ 7 → proxyPart (areaOf p) ≡ 0x21 ∷ 0x03 ∷ 0x41 ∷ []
       → any (kindIs 24) (attributes (areaOf p)) ≡ false → any (kindIs 80) (attributes (areaOf p)) ≡ false
       → (handleReply g t b p clock
       ≡ write b 0 ((0x2A ∷ 0x07 ∷ 0x00 ∷ 0x1D ∷ []) ++ replyAuth (g .secret) p SessionNotFound ++ (0x65 ∷ 0x06 ∷ 0x00 ∷ 0x00 ∷ 0x01 ∷ 0xF7 ∷ 0x21 ∷ 0x03 ∷ 0x41 ∷ [])))

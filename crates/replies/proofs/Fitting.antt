@@ -18,23 +18,23 @@ use Rattle.causes.specs.Causes.{errorCause}
 use Rattle.rules.specs.Packet.{areaOf}
 use Rattle.rules.specs.Discards.{Sized}
 use Rattle.rules.specs.Verdict.{applies}
-use Rattle.reply.specs.Reply.{stateOf, causeOf, proxiesOf, bodyOf, macPart, replyLength}
+use Rattle.reply.specs.Reply.{statePart, causePart, proxyPart, bodyOf, macPart, replyLength}
 use Rattle.replies.proofs.Sums.{sumOf, total-fits, first-size, length-found, length-proxies, four-types}
 
 cause-case : (b : Bool) (v : List ℕ) → length v ≡ 4 → length (cond b (101 ∷ 6 ∷ v) []) ≤ 6
 cause-case true v e = omega arith
 cause-case false v e = omega arith
 
-length-cause : (c : Cause) → length (causeOf c) ≤ 6
-unfolding causeOf
+length-cause : (c : Cause) → length (causePart c) ≤ 6
+unfolding causePart
 length-cause c = cause-case (applies c) (beBytes 4 (errorCause c)) (length-beBytes 4 (errorCause c))
 
-length-state : (s : List ℕ) → length (stateOf s) ≤ sumOf (kindIs 24) (attributes s)
-unfolding stateOf
+length-state : (s : List ℕ) → length (statePart s) ≤ sumOf (kindIs 24) (attributes s)
+unfolding statePart
 length-state s = omega (arith, length-found s (firstOf (kindIs 24) (attributes s)), first-size (kindIs 24) (attributes s))
 
-length-all : (s : List ℕ) → length (proxiesOf s) ≤ sumOf (kindIs 33) (attributes s)
-unfolding proxiesOf
+length-all : (s : List ℕ) → length (proxyPart s) ≤ sumOf (kindIs 33) (attributes s)
+unfolding proxyPart
 length-all s = length-proxies s (attributes s)
 
 mac-case : (b : Bool) (z n : ℕ) → (b ≡ true → z ≡ 18) → z ≤ n → length (cond b (80 ∷ 18 ∷ zeros) []) ≤ n

@@ -22,7 +22,7 @@ use Rattle.causes.specs.declared.Cause.{Cause}
 use Rattle.causes.specs.Causes.{errorCause}
 use Rattle.rules.specs.Packet.{areaOf}
 use Rattle.rules.specs.Verdict.{applies}
-use Rattle.reply.specs.Reply.{asCame, ifFound, stateOf, causeOf, proxiesIn, proxiesOf, bodyOf, macPart, replyLength, replyMac, replyOf}
+use Rattle.reply.specs.Reply.{asCame, ifFound, statePart, causePart, proxiesIn, proxyPart, bodyOf, macPart, replyLength, replyMac, replyOf}
 use Rattle.reply.proofs.Lengths.{length-replyMac}
 use Rattle.reply.proofs.Packets.{valued}
 use Rattle.replies.proofs.Back.{maced, reply-area}
@@ -37,8 +37,8 @@ found-plain : (s : List ℕ) (x : Search) → firstOf (kindIs 24) (attributes s)
 found-plain s (At a) q = came-plain s a (first-stands (kindIs 24) s a q) (λ e. omega (arith, eqb-true (a .kind) 24 (first-passes (kindIs 24) (attributes s) a q)))
 found-plain s Missing q = plain-nil
 
-state-plain : (s : List ℕ) → Plain (stateOf s)
-unfolding stateOf
+state-plain : (s : List ℕ) → Plain (statePart s)
+unfolding statePart
 state-plain s = found-plain s (firstOf (kindIs 24) (attributes s)) refl
 
 proxy-plain : (b : Bool) (x y : List ℕ) → (b ≡ true → Plain x) → Plain y → Plain (cond b (x ++ y) y)
@@ -51,23 +51,23 @@ proxies-plain s (a ∷ l) f =
     proxy-plain (kindIs 33 a) (asCame s a) (proxiesIn s l) (λ q. came-plain s a (f a (List·Memᴰ·head refl)) (λ e. omega (arith, eqb-true (a .kind) 33 q)))
     (proxies-plain s l (λ b m. f b (List·Memᴰ·tail m)))
 
-all-plain : (s : List ℕ) → Plain (proxiesOf s)
-unfolding proxiesOf
+all-plain : (s : List ℕ) → Plain (proxyPart s)
+unfolding proxyPart
 all-plain s = proxies-plain s (attributes s) (λ a m. member-stands s 0 a m)
 
 cause-case : (b : Bool) (v : List ℕ) → length v ≡ 4 → Plain (cond b (101 ∷ 6 ∷ v) [])
 cause-case true v e = let six : length v + 2 ≡ 6 = omega arith in rw (← six) (plain-bytes 101 v (λ h. omega arith))
 cause-case false v e = plain-nil
 
-cause-plain : (c : Cause) → Plain (causeOf c)
-unfolding causeOf
+cause-plain : (c : Cause) → Plain (causePart c)
+unfolding causePart
 cause-plain c = cause-case (applies c) (beBytes 4 (errorCause c)) (length-beBytes 4 (errorCause c))
 
 pub body-plain : (p : List ℕ) (c : Cause) → Plain (bodyOf p c)
 unfolding bodyOf
 body-plain p c =
     let s = areaOf p in
-    plain-both (stateOf s ++ causeOf c) (proxiesOf s) (plain-both (stateOf s) (causeOf c) (state-plain s) (cause-plain c)) (all-plain s)
+    plain-both (statePart s ++ causePart c) (proxyPart s) (plain-both (statePart s) (causePart c) (state-plain s) (cause-plain c)) (all-plain s)
 
 pub reply-tiled : (secret p : List ℕ) (c : Cause) → replyLength p c ≤ 4096 → tiled (areaOf (replyOf secret p c)) ≡ true
 unfolding macPart valued

@@ -25,7 +25,7 @@ use Rattle.causes.specs.declared.Cause.{Cause}
 use Rattle.causes.specs.Causes.{errorCause}
 use Rattle.rules.specs.Packet.{codeOf, identifierOf}
 use Rattle.rules.specs.Verdict.{applies}
-use Rattle.reply.specs.Reply.{asCame, causeOf, replyLength, headOf}
+use Rattle.reply.specs.Reply.{asCame, causePart, replyLength, headOf}
 use Rattle.reply.specs.Rooms.{macRoom}
 use Rattle.reply.proofs.Writes.{write-two, two-long}
 
@@ -42,14 +42,14 @@ module _ (s v : List ℕ) (a : Attribute) (q : stepAt s (a .at) ≡ Found a (a .
 -- ---- Error-Cause and type 80: v is the value
 
 module _ (c : Cause) (r : Bool) (is : r ≡ applies c) where
-  pub cause-bytes : (v z : List ℕ) (n : ℕ) → r ≡ true → n ≡ errorCause c → v ≡ write z 0 (beBytes 4 n) → length z ≡ 4 → causeOf c ≡ 101 ∷ 6 ∷ v
-  unfolding causeOf
+  pub cause-bytes : (v z : List ℕ) (n : ℕ) → r ≡ true → n ≡ errorCause c → v ≡ write z 0 (beBytes 4 n) → length z ≡ 4 → causePart c ≡ 101 ∷ 6 ∷ v
+  unfolding causePart
   cause-bytes v z n h e g l =
       let w : v ≡ beBytes 4 n = g ∙ write-whole z (beBytes 4 n) (length-beBytes 4 n ∙ sym l) in
       rw (← is, h, w, e)
 
-  pub cause-none : r ≡ false → causeOf c ≡ []
-  unfolding causeOf
+  pub cause-none : r ≡ false → causePart c ≡ []
+  unfolding causePart
   cause-none h = rw (← is, h)
 
 pub room-bytes : (present : Bool) → present ≡ true → macRoom present ≡ 80 ∷ 18 ∷ replicate 16 0

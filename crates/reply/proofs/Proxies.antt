@@ -14,37 +14,37 @@ use Rattle.attributes.specs.declared.Step.the-variants.{Found, End, Bad}
 use Rattle.attributes.specs.Attributes.{stepAt, attributesFrom}
 use Rattle.attributes.proofs.Steps.{found-placed}
 use Rattle.attributes.proofs.Walks.{left-found, left-end, left-bad}
-use Rattle.reply.specs.Reply.{asCame, proxiesIn, proxiesOf}
+use Rattle.reply.specs.Reply.{asCame, proxiesIn, proxyPart}
 
 -- t₀ with some of them written is t; the attributes from at on are left, and go to place to
 pub record Copying (s t₀ : List ℕ) (from : ℕ) (t : List ℕ) (at to : ℕ) : Type 0 where
   pub long : length t ≡ length t₀
-  pub room : to + length (proxiesIn s (attributesFrom s at)) ≡ from + length (proxiesOf s)
-  pub left : write t to (proxiesIn s (attributesFrom s at)) ≡ write t₀ from (proxiesOf s)
+  pub room : to + length (proxiesIn s (attributesFrom s at)) ≡ from + length (proxyPart s)
+  pub left : write t to (proxiesIn s (attributesFrom s at)) ≡ write t₀ from (proxyPart s)
 
 pub copy-starts : (s t : List ℕ) (from : ℕ) → Copying s t from t 0 from
-unfolding proxiesOf
+unfolding proxyPart
 copy-starts s t from = record { long = refl; room = refl; left = refl }
 
 module _ (s t₀ : List ℕ) (from : ℕ) (t : List ℕ) (at to : ℕ) (c : Copying s t₀ from t at to) (x : Step) (q : x ≡ stepAt s at) where
-  place : proxiesIn s (attributesFrom s at) ≡ [] → to ≡ from + length (proxiesOf s)
+  place : proxiesIn s (attributesFrom s at) ≡ [] → to ≡ from + length (proxyPart s)
   place e =
-      let l : to + 0 ≡ from + length (proxiesOf s) = rw e at (c .room) in
+      let l : to + 0 ≡ from + length (proxyPart s) = rw e at (c .room) in
       omega arith
 
-  whole : proxiesIn s (attributesFrom s at) ≡ [] → t ≡ write t₀ from (proxiesOf s)
+  whole : proxiesIn s (attributesFrom s at) ≡ [] → t ≡ write t₀ from (proxyPart s)
   whole e = write-nil t to ∙ ap (write t to) (sym e) ∙ c .left
 
-  pub end-place : x ≡ End → to ≡ from + length (proxiesOf s)
+  pub end-place : x ≡ End → to ≡ from + length (proxyPart s)
   end-place r = place (ap (proxiesIn s) (left-end s at x q r))
 
-  pub end-bytes : x ≡ End → t ≡ write t₀ from (proxiesOf s)
+  pub end-bytes : x ≡ End → t ≡ write t₀ from (proxyPart s)
   end-bytes r = whole (ap (proxiesIn s) (left-end s at x q r))
 
-  pub bad-place : x ≡ Bad → to ≡ from + length (proxiesOf s)
+  pub bad-place : x ≡ Bad → to ≡ from + length (proxyPart s)
   bad-place r = place (ap (proxiesIn s) (left-bad s at x q r))
 
-  pub bad-bytes : x ≡ Bad → t ≡ write t₀ from (proxiesOf s)
+  pub bad-bytes : x ≡ Bad → t ≡ write t₀ from (proxyPart s)
   bad-bytes r = whole (ap (proxiesIn s) (left-bad s at x q r))
 
   module _ (a : Attribute) (next : ℕ) (r : x ≡ Found a next) where
@@ -67,7 +67,7 @@ module _ (s t₀ : List ℕ) (from : ℕ) (t : List ℕ) (at to : ℕ) (c : Copy
       long-split : length (proxiesIn s (attributesFrom s at)) ≡ length (asCame s a) + length (proxiesIn s (attributesFrom s next))
       long-split = ap length split ∙ length-append (asCame s a) (proxiesIn s (attributesFrom s next))
 
-      pub copy-fits : from + length (proxiesOf s) ≤ length t₀ → to + length (asCame s a) ≤ length t
+      pub copy-fits : from + length (proxyPart s) ≤ length t₀ → to + length (asCame s a) ≤ length t
       copy-fits f = omega (arith, long-split, c .room, c .long)
 
       pub copy-one : (t′ : List ℕ) (to′ : ℕ) → t′ ≡ write t to (asCame s a) → to′ ≡ to + length (asCame s a) → Copying s t₀ from t′ next to′

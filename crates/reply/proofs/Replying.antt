@@ -19,7 +19,7 @@ use Rattle.causes.specs.declared.Cause.{Cause}
 use Rattle.rules.specs.Packet.{codeOf, authOf, areaOf}
 use Rattle.rules.specs.Discards.{formOf, badLength, badCode, badAttributes, Sized}
 use Rattle.rules.proofs.Verdicts.{area-of}
-use Rattle.reply.specs.Reply.{stateOf, causeOf, proxiesOf, bodyOf, macPart, replyLength, headOf, replyWith, replyMac, replyAuth, replyOf}
+use Rattle.reply.specs.Reply.{statePart, causePart, proxyPart, bodyOf, macPart, replyLength, headOf, replyWith, replyMac, replyAuth, replyOf}
 use Rattle.reply.specs.Rooms.{macRoom, withMac}
 use Rattle.reply.proofs.Writes.{write-before}
 use Rattle.reply.proofs.Lengths.{length-auth, length-head}
@@ -41,16 +41,16 @@ pub auth-long : (p auth : List ℕ) (n : ℕ) → Sized p n → auth ≡ part 4 
 auth-long p auth n z e = ap length e ∙ length-auth p n z
 
 module _ (p s : List ℕ) (n : ℕ) (c : Cause) (sized : Sized p n) (area : s ≡ part 20 (n - 20) p) where
-  body-is : stateOf s ++ causeOf c ++ proxiesOf s ≡ bodyOf p c
+  body-is : statePart s ++ causePart c ++ proxyPart s ≡ bodyOf p c
   unfolding bodyOf
   body-is = rw (area-of s p n area sized)
 
-  pub body-fits : (m : ℕ) → replyLength p c ≤ 4096 → 4096 ≤ m → 20 + length (stateOf s ++ causeOf c ++ proxiesOf s) ≤ m
+  pub body-fits : (m : ℕ) → replyLength p c ≤ 4096 → 4096 ≤ m → 20 + length (statePart s ++ causePart c ++ proxyPart s) ≤ m
   unfolding replyLength
   body-fits m h g = rw body-is (omega arith)
 
   module _ (f : Flags) (count ends sizes : List ℕ) (surveyed : Surveyed (areaOf p) (codeOf p) f count ends sizes) (present : Bool) (seen : present ≡ seenAt count 80)
-      (b : ℕ) (hb : b ≡ 20 + length (stateOf s ++ causeOf c ++ proxiesOf s)) where
+      (b : ℕ) (hb : b ≡ 20 + length (statePart s ++ causePart c ++ proxyPart s)) where
     present-is : present ≡ any (kindIs 80) (attributes (areaOf p))
     present-is = seen ∙ seen-any (areaOf p) (codeOf p) f count ends sizes surveyed 80 (lit< tt) (λ e. omega arith)
 
@@ -69,7 +69,7 @@ module _ (p s : List ℕ) (n : ℕ) (c : Cause) (sized : Sized p n) (area : s �
 
       -- l is the buffer before the calls
       pub replied : (secret auth l t₁ t₂ t₃ t₄ t₅ : List ℕ) → auth ≡ part 4 16 p → replyLength p c ≤ 4096 → 4096 ≤ length l
-          → t₁ ≡ write l 20 (stateOf s ++ causeOf c ++ proxiesOf s) → t₂ ≡ write t₁ b (macRoom present) → t₃ ≡ write t₂ 0 (headOf p c ++ auth)
+          → t₁ ≡ write l 20 (statePart s ++ causePart c ++ proxyPart s) → t₂ ≡ write t₁ b (macRoom present) → t₃ ≡ write t₂ 0 (headOf p c ++ auth)
           → t₄ ≡ withMac present auth t₃ e secret → t₅ ≡ write t₄ 4 (authenticator auth t₄ e secret) → t₅ ≡ write l 0 (replyOf secret p c)
       unfolding replyWith replyLength replyMac replyAuth replyOf macPart packet packetLength valued packetMac packetAuth signedPacket
       replied secret auth l t₁ t₂ t₃ t₄ t₅ ea h g e₁ e₂ e₃ e₄ e₅ =

@@ -18,16 +18,16 @@ use Rattle.attributes.proofs.Searches.{first-passes}
 use Rattle.survey.specs.declared.Flags.{Flags}
 use Rattle.survey.specs.Survey.{Surveyed, seenAt, endOf, sizeOf}
 use Rattle.survey.proofs.Values.{seen-any}
-use Rattle.reply.specs.Reply.{asCame, ifFound, stateOf}
+use Rattle.reply.specs.Reply.{asCame, ifFound, statePart}
 
 -- an attribute that stands where it says, and is the first State
 pub record First (s : List ℕ) (a : Attribute) : Type 0 where
   pub stands : stepAt s (a .at) ≡ Found a (a .at + a .size)
-  pub is : stateOf s ≡ asCame s a
+  pub is : statePart s ≡ asCame s a
 
 state-of : (s : List ℕ) (z : Search) (end size : ℕ) → firstOf (kindIs 24) (attributes s) ≡ z → found z ≡ true → end ≡ endOf z → size ≡ sizeOf z
     → (size ≤ end) × First s (record { kind = 24; at = end - size; size = size })
-unfolding stateOf
+unfolding statePart
 state-of s (At a) end size q h e g =
     let k : a .kind ≡ 24 = eqb-true (a .kind) 24 (first-passes (kindIs 24) (attributes s) a q) in
     let o : end - size ≡ a .at = omega arith in
@@ -52,11 +52,11 @@ module _ (s : List ℕ) (code : ℕ) (f : Flags) (count ends sizes : List ℕ) (
     pub state-stands : stepAt s (end - size) ≡ Found (record { kind = 24; at = end - size; size = getD sizes 24 0 }) (end - size + getD sizes 24 0)
     state-stands = both .1 .stands
 
-    pub state-some : stateOf s ≡ asCame s (record { kind = 24; at = end - size; size = getD sizes 24 0 })
+    pub state-some : statePart s ≡ asCame s (record { kind = 24; at = end - size; size = getD sizes 24 0 })
     state-some = both .1 .is
 
-  pub state-none : r ≡ false → stateOf s ≡ []
-  unfolding stateOf
+  pub state-none : r ≡ false → statePart s ≡ []
+  unfolding statePart
   state-none h = go (firstOf (kindIs 24) (attributes s)) (seen ∙ h)
     where
       go : (z : Search) → found z ≡ false → ifFound s z ≡ []

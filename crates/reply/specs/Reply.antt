@@ -27,24 +27,24 @@ ifFound s (At a) = asCame s a
 ifFound s Missing = []
 
 -- the first State (24), no later one
-unfoldable pub stateOf : List ℕ → List ℕ
-stateOf s = ifFound s (firstOf (kindIs 24) (attributes s))
+unfoldable pub statePart : List ℕ → List ℕ
+statePart s = ifFound s (firstOf (kindIs 24) (attributes s))
 
 -- Error-Cause (101, length 6) on NAK
-unfoldable pub causeOf : Cause → List ℕ
-causeOf c = cond (applies c) (101 ∷ 6 ∷ beBytes 4 (errorCause c)) []
+unfoldable pub causePart : Cause → List ℕ
+causePart c = cond (applies c) (101 ∷ 6 ∷ beBytes 4 (errorCause c)) []
 
 -- every Proxy-State (33), in order
 abbrev pub proxiesIn : List ℕ → List Attribute → List ℕ
 proxiesIn s [] = []
 proxiesIn s (a ∷ rest) = cond (kindIs 33 a) (asCame s a ++ proxiesIn s rest) (proxiesIn s rest)
 
-unfoldable pub proxiesOf : List ℕ → List ℕ
-proxiesOf s = proxiesIn s (attributes s)
+unfoldable pub proxyPart : List ℕ → List ℕ
+proxyPart s = proxiesIn s (attributes s)
 
 -- the attributes but type 80
 unfoldable pub bodyOf : List ℕ → Cause → List ℕ
-bodyOf p c = stateOf (areaOf p) ++ causeOf c ++ proxiesOf (areaOf p)
+bodyOf p c = statePart (areaOf p) ++ causePart c ++ proxyPart (areaOf p)
 
 -- type 80, if the request had one
 unfoldable pub macPart : List ℕ → List ℕ → List ℕ

@@ -10,7 +10,7 @@ ghost use Rattle.attributes.specs.declared.Step.the-variants.{Found};
 ghost use Rattle.survey.specs.Survey.{Surveyed};
 ghost use Rattle.rules.specs.Packet.{codeOf};
 ghost use Rattle.rules.specs.Verdict.{applies};
-ghost use Rattle.reply.specs.Reply.{asCame, stateOf, causeOf, proxiesOf, replyLength, headOf};
+ghost use Rattle.reply.specs.Reply.{asCame, statePart, causePart, proxyPart, replyLength, headOf};
 use crate::frame;
 use crate::frame::put;
 use attributes::Attribute;
@@ -59,9 +59,9 @@ fn put_state(
     sizes: &[u8; 256],
 ) -> usize
     requires { ⌜ Surveyed (now s) code f (now count) (now ends) (now sizes) ⌝ }
-    requires { ⌜ to + length (stateOf (now s)) ≤ length (now t) ⌝ }
-    ensures { λ r. ⌜ now (t .exit) ≡ write (now (t .entry)) to (stateOf (now (s .entry))) ⌝ }
-    ensures { λ r. ⌜ r ≡ to + length (stateOf (now (s .entry))) ⌝ }
+    requires { ⌜ to + length (statePart (now s)) ≤ length (now t) ⌝ }
+    ensures { λ r. ⌜ now (t .exit) ≡ write (now (t .entry)) to (statePart (now (s .entry))) ⌝ }
+    ensures { λ r. ⌜ r ≡ to + length (statePart (now (s .entry))) ⌝ }
 {
     if survey::kept::has(count, 24) {
         let size = sizes[24];
@@ -74,9 +74,9 @@ fn put_state(
 
 // Error-Cause on NAK.
 fn put_cause(t: &mut [u8], to: usize, cause: Cause) -> usize
-    requires { ⌜ to + length (causeOf cause) ≤ length (now t) ⌝ }
-    ensures { λ r. ⌜ now (t .exit) ≡ write (now (t .entry)) to (causeOf cause) ⌝ }
-    ensures { λ r. ⌜ r ≡ to + length (causeOf cause) ⌝ }
+    requires { ⌜ to + length (causePart cause) ≤ length (now t) ⌝ }
+    ensures { λ r. ⌜ now (t .exit) ≡ write (now (t .entry)) to (causePart cause) ⌝ }
+    ensures { λ r. ⌜ r ≡ to + length (causePart cause) ⌝ }
 {
     if applies(cause) {
         let mut v = [0u8; 4];
@@ -88,9 +88,9 @@ fn put_cause(t: &mut [u8], to: usize, cause: Cause) -> usize
 
 // Every Proxy-State, in order.
 fn put_proxies(t: &mut [u8], from: usize, s: &[u8]) -> usize
-    requires { ⌜ from + length (proxiesOf (now s)) ≤ length (now t) ⌝ }
-    ensures { λ r. ⌜ now (t .exit) ≡ write (now (t .entry)) from (proxiesOf (now (s .entry))) ⌝ }
-    ensures { λ r. ⌜ r ≡ from + length (proxiesOf (now (s .entry))) ⌝ }
+    requires { ⌜ from + length (proxyPart (now s)) ≤ length (now t) ⌝ }
+    ensures { λ r. ⌜ now (t .exit) ≡ write (now (t .entry)) from (proxyPart (now (s .entry))) ⌝ }
+    ensures { λ r. ⌜ r ≡ from + length (proxyPart (now (s .entry))) ⌝ }
 {
     let mut at: usize = 0;
     let mut to = from;
@@ -124,9 +124,9 @@ pub fn put_body(
     sizes: &[u8; 256],
 ) -> usize
     requires { ⌜ Surveyed (now s) code f (now count) (now ends) (now sizes) ⌝ }
-    requires { ⌜ 20 + length (stateOf (now s) ++ causeOf cause ++ proxiesOf (now s)) ≤ length (now t) ⌝ }
-    ensures { λ r. ⌜ now (t .exit) ≡ write (now (t .entry)) 20 (stateOf (now (s .entry)) ++ causeOf cause ++ proxiesOf (now (s .entry))) ⌝ }
-    ensures { λ r. ⌜ r ≡ 20 + length (stateOf (now (s .entry)) ++ causeOf cause ++ proxiesOf (now (s .entry))) ⌝ }
+    requires { ⌜ 20 + length (statePart (now s) ++ causePart cause ++ proxyPart (now s)) ≤ length (now t) ⌝ }
+    ensures { λ r. ⌜ now (t .exit) ≡ write (now (t .entry)) 20 (statePart (now (s .entry)) ++ causePart cause ++ proxyPart (now (s .entry))) ⌝ }
+    ensures { λ r. ⌜ r ≡ 20 + length (statePart (now (s .entry)) ++ causePart cause ++ proxyPart (now (s .entry))) ⌝ }
 {
     let state = put_state(&mut *t, 20, s, code, f, count, ends, sizes);
     let to = put_cause(&mut *t, state, cause);

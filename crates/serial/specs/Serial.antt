@@ -67,7 +67,7 @@ enterOpen p clock size s =
 
 -- a step that finished handles the noted packet whole and strikes the note
 abbrev pub handled : Note → ℕ → List ℕ → Serial → Entry
-handled none j b s = entry Going b s
+handled none j b s = entry Going b s -- does not come: R7
 handled (noted p clock) j b s =
     entry (Done (handleAnswer (s .settings) (s .table) b p clock))
     (handleReply (s .settings) (s .table) b p clock)
@@ -114,6 +114,7 @@ pub record Kept : Type 0 where
 
 unfoldable pub keep : List Call → List Bool → ℕ → Serial → Kept
 keep [] fs size s = record { outs = []; serial = s }
+-- does not come: there is one for each call
 keep (c ∷ cs) [] size s = record { outs = []; serial = s }
 keep (c ∷ cs) (f ∷ fs) size s =
     record { outs = enter c f size s .out ∷ keep cs fs size (enter c f size s .serial) .outs; serial = keep cs fs size (enter c f size s .serial) .serial }

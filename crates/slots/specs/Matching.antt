@@ -1,4 +1,5 @@
--- Which sessions a request names (document 01: "A session matches if every one of 1, 5, 8, 31, 44 in the request equals its field").
+-- A slot against a list of criteria, as the code walks it. Which sessions a request names is said in effects/specs/Matching.antt; of this file the contracts use
+-- `fieldBytes` alone, the field of a session that a criterion asks for.
 -- Assumes nothing.
 use mathlib.Core.Bool.{Bool, true, _&&_}
 use mathlib.Core.List.{List, [], _∷_}

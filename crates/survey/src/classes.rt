@@ -1,4 +1,4 @@
-// The table of support classes, and the rules that are read off it. No other place of the code names a type for a rule.
+// The table of support classes, and the rules 401, 402, 404 and 405 that are read off it.
 ghost use mathlib.Core.Path.{_≡_};
 ghost use Prim.Native.Nat.{_<_};
 ghost use Rattle.survey.specs.Classes.{classOf, classes, says};
