@@ -75,7 +75,7 @@ matchJob j k q t =
 -- the skew at Commit: the stamp in the store then, minus the kept clock
 abbrev pub skewAt : T.Stamp → ℕ → ℤ
 skewAt (Usable v) clock = skewOf v clock
-skewAt Unusable clock = pos 0 -- does not come: the re-reading asks for type 55
+skewAt Unusable clock = pos 0  -- does not come: the re-reading asks for type 55
 
 -- Commit, by the marks as held: 503, or changes and ACK
 unfoldable pub commitMove : B.Job → List ℕ → List ℕ → M.Moved
@@ -93,7 +93,7 @@ slotTable g j k q t = cond (holdsPassed g (j .length) q) (cond (ltb k (slotCount
 
 -- one step of a job, and the table after it; of a free job nothing
 abbrev pub movedAt : Settings → S.Stage → B.Job → List ℕ → List ℕ → M.Moved
-movedAt g Free j q t = going j -- does not come: R7
+movedAt g Free j q t = going j  -- does not come: R7
 movedAt g (Hash k) j q t = going (hashJob (g .secret) j k q)
 movedAt g Check j q t = checkMove g j q
 movedAt g (Match k) j q t = slotMove g j k q t

@@ -67,7 +67,7 @@ enterOpen p clock size s =
 
 -- a step that finished handles the noted packet whole and strikes the note
 abbrev pub handled : Note → ℕ → List ℕ → Serial → Entry
-handled none j b s = entry Going b s -- does not come: R7
+handled none j b s = entry Going b s  -- does not come: R7
 handled (noted p clock) j b s =
     entry (Done (handleAnswer (s .settings) (s .table) b p clock))
     (handleReply (s .settings) (s .table) b p clock)
