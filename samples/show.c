@@ -59,28 +59,34 @@ static void show_attribute(const uint8_t *a)
         printf("           %s", attributes[i].name);
         if (attributes[i].form == TEXT)
             printf(" \"%.*s\"", a[1] - 2, a + 2);
-        if (attributes[i].form == NUMBER)
+        if (attributes[i].form == NUMBER && a[1] == 6)
             printf(" %u", (unsigned)number_at(a + 2));
-        if (attributes[i].form == ADDRESS) {
+        if (attributes[i].form == ADDRESS && a[1] == 6) {
             printf(" ");
             show_address(a + 2);
         }
         printf("\n");
+        return;
     }
+    printf("           type %u, length %u\n", a[0], a[1]);
+}
+
+const char *code_name(uint8_t code)
+{
+    static const char *const codes[] = {"Disconnect-Request", "Disconnect-ACK", "Disconnect-NAK", "CoA-Request", "CoA-ACK", "CoA-NAK"};
+    return code >= 40 && code <= 45 ? codes[code - 40] : "another code";
 }
 
 void show_packet(const char *what, const uint8_t *packet)
 {
-    static const char *const codes[] = {"Disconnect-Request", "Disconnect-ACK", "Disconnect-NAK", "CoA-Request", "CoA-ACK", "CoA-NAK"};
     size_t length = (size_t)packet[2] << 8 | packet[3];
     show_bytes(what, packet, length);
-    printf("           %s, identifier %u, %u bytes\n", codes[packet[0] - 40], packet[1], (unsigned)length);
+    printf("           %s, identifier %u, %u bytes\n", code_name(packet[0]), packet[1], (unsigned)length);
     for (size_t at = 20; at < length; at += packet[at + 1])
         show_attribute(packet + at);
 }
 
-/* RFC 3576, 3.2 */
-static const char *cause_name(uint32_t cause)
+const char *cause_name(uint32_t cause)
 {
     switch (cause) {
     case 401: return "Unsupported Attribute";

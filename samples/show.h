@@ -5,6 +5,12 @@
 /* A number in four bytes, high byte first. */
 uint32_t number_at(const uint8_t *p);
 
+/* The name of a packet's code: RFC 3576, 3. */
+const char *code_name(uint8_t code);
+
+/* The name of an Error-Cause: RFC 3576, 3.2. */
+const char *cause_name(uint32_t cause);
+
 /* The packet in hex, and then by its attributes. */
 void show_packet(const char *what, const uint8_t *packet);
 
