@@ -1,0 +1,36 @@
+"""FreeRADIUS's radclient: exit status 0 means that the reply is authentic and passes the filter."""
+import subprocess
+import tempfile
+from pathlib import Path
+from typing import NamedTuple
+
+from settings import LIMIT, QUIET, SECRET
+
+
+class Ran(NamedTuple):
+    status: int
+    output: str
+
+    def is_silent(self):
+        return self.status == 1 and "No reply from server" in self.output
+
+
+def radclient(port, command, requests, filters=None, *options, secret=SECRET, wait=LIMIT):
+    """Sends each of the requests once. A request is a list of pairs as radclient reads them, and so is its filter."""
+    with tempfile.TemporaryDirectory() as room:
+        files = [Path(room, "requests")]
+        files[0].write_text(text(requests))
+        if filters is not None:
+            files.append(Path(room, "filters"))
+            files[1].write_text(text(filters))
+        words = ["radclient", "-x", "-r", "1", "-t", str(wait), "-f", ":".join(map(str, files)), *options, f"127.0.0.1:{port}", command, secret]
+        ran = subprocess.run(words, stdout=subprocess.PIPE, stderr=subprocess.STDOUT, text=True, errors="replace", timeout=4 * LIMIT)
+    return Ran(ran.returncode, ran.stdout)
+
+
+def unanswered(port, command, request, secret=SECRET):
+    return radclient(port, command, [request], secret=secret, wait=QUIET)
+
+
+def text(packets):
+    return "\n\n".join("\n".join(pairs) for pairs in packets) + "\n"
