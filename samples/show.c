@@ -9,7 +9,20 @@ uint32_t number_at(const uint8_t *p)
 
 static void show_address(const uint8_t *p) { printf("%u.%u.%u.%u", p[0], p[1], p[2], p[3]); }
 
-static void show_text(const char *name, const uint8_t *field) { printf(", %s \"%.*s\"", name, field[0], field + 1); }
+/* In quotes; what is not plain ASCII stands in hex, so that any bytes stay on their line. */
+static void show_text(const uint8_t *p, size_t n)
+{
+    printf("\"");
+    for (size_t i = 0; i < n; i++)
+        printf(p[i] < ' ' || p[i] > '~' ? "\\x%02x" : "%c", p[i]);
+    printf("\"");
+}
+
+static void show_field(const char *name, const uint8_t *field)
+{
+    printf(", %s ", name);
+    show_text(field + 1, field[0]);
+}
 
 void show_slot(const char *when, size_t k, const uint8_t *slot)
 {
@@ -18,13 +31,13 @@ void show_slot(const char *when, size_t k, const uint8_t *slot)
         printf(", free\n");
         return;
     }
-    show_text("User-Name", slot + 18);
-    show_text("session", slot + 82);
+    show_field("User-Name", slot + 18);
+    show_field("session", slot + 82);
     printf(", port %u, ", (unsigned)number_at(slot + 2));
     show_address(slot + 6);
-    show_text("station", slot + 115);
+    show_field("station", slot + 115);
     printf(", Session-Timeout %u, Idle-Timeout %u", (unsigned)number_at(slot + 10), (unsigned)number_at(slot + 14));
-    show_text("Filter-Id", slot + 148);
+    show_field("Filter-Id", slot + 148);
     printf("\n");
 }
 
@@ -56,15 +69,13 @@ static void show_attribute(const uint8_t *a)
     for (size_t i = 0; i < sizeof attributes / sizeof *attributes; i++) {
         if (attributes[i].type != a[0])
             continue;
-        printf("           %s", attributes[i].name);
+        printf("           %s%s", attributes[i].name, attributes[i].form == SIGNATURE ? "" : " ");
         if (attributes[i].form == TEXT)
-            printf(" \"%.*s\"", a[1] - 2, a + 2);
+            show_text(a + 2, a[1] - 2u);
         if (attributes[i].form == NUMBER && a[1] == 6)
-            printf(" %u", (unsigned)number_at(a + 2));
-        if (attributes[i].form == ADDRESS && a[1] == 6) {
-            printf(" ");
+            printf("%u", (unsigned)number_at(a + 2));
+        if (attributes[i].form == ADDRESS && a[1] == 6)
             show_address(a + 2);
-        }
         printf("\n");
         return;
     }

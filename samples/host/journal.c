@@ -93,7 +93,7 @@ void tell_table(const struct host *host)
     printf("session table:\n");
     for (size_t k = 0; k < host->options.slots; k++) {
         const uint8_t *slot = host->table + k * FBK_SLOT_SIZE;
-        if (slot[0] == 0x5A)
+        if (slot[0] != 0) /* this table's free slots are zeros */
             show_slot("", k, slot);
         else
             free_slots++;

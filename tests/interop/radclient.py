@@ -11,8 +11,10 @@ class Ran(NamedTuple):
     status: int
     output: str
 
-    def is_silent(self):
-        return self.status == 1 and "No reply from server" in self.output
+    def verdict(self):
+        """What radclient says against the reply, if anything."""
+        said = self.output.strip().splitlines() or [""]
+        return "as expected" if self.status == 0 else "no reply" if "No reply from server" in said[-1] else said[-1]
 
 
 def radclient(port, command, requests, filters=None, *options, secret=SECRET, wait=LIMIT):

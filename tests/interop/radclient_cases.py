@@ -35,8 +35,8 @@ def answered(report, program, port, way):
                 ran = radclient(port, case.command, [[*case.request, stamp(), *([MAC] if mac else [])]], [filter_for(case, mac)])
                 told, table = host.told(), host.table()
             kept = sum(case.after[0] in slot for slot in table) if case.after else table == before
-            found = ran.status, re.findall("Received .* length ([0-9]+)", ran.output), told.rule, told.changed, kept
-            wanted = 0, [str(length_for(case, mac))], str(case.cause), case.changed, case.after[1] if case.after else True
+            found = ran.verdict(), re.findall("Received .* length ([0-9]+)", ran.output), told.rule, told.changed, kept
+            wanted = "as expected", [str(length_for(case, mac))], str(case.cause), case.changed, case.after[1] if case.after else True
             report.same(found, wanted, f"radclient, {way}", f"{case.command}: {case.title}{', with Message-Authenticator' if mac else ''}")
 
 
@@ -55,9 +55,9 @@ def discarded(report, program, port, way):
         before = host.table()
         for command, title, request, rule in SILENT:
             ran, told = unanswered(port, command, request()), host.told()
-            report.same((ran.is_silent(), told.rule, told.answer), (True, rule, "no reply"), f"radclient, {way}", f"{command}: no reply, {title}")
+            report.same((ran.verdict(), told.rule, told.answer), ("no reply", rule, "no reply"), f"radclient, {way}", f"{command}: no reply, {title}")
         ran, told = unanswered(port, "coa", [USER, ALLOWANCE, stamp()], secret="testing124"), host.told()
-        report.same((ran.is_silent(), told.rule, told.answer), (True, "D4", "no reply"), f"radclient, {way}", "coa: no reply, another secret")
+        report.same((ran.verdict(), told.rule, told.answer), ("no reply", "D4", "no reply"), f"radclient, {way}", "coa: no reply, another secret")
         report.same(host.table(), before, f"radclient, {way}", "the table after all that had no reply")
 
 
@@ -69,4 +69,4 @@ def together(report, program, port):
         ran = radclient(port, "coa", requests, filters, "-p", "10")
         told = [host.told() for _ in requests]
     jobs = {line.job.split(",")[0] for line in told}
-    report.same((ran.status, sorted(jobs)), (0, [f"job {number}" for number in range(4)]), "radclient, steps", "coa: ten at once, by four jobs")
+    report.same((ran.verdict(), sorted(jobs)), ("as expected", [f"job {number}" for number in range(4)]), "radclient, steps", "coa: ten at once, by four jobs")

@@ -1,4 +1,5 @@
 """Real clients against the host: python3 tests/interop/run.py HOST LIBRARY.so CAPTURE. A row for each case; its last line is the count."""
+import signal
 import sys
 
 import capture_cases
@@ -9,7 +10,7 @@ import scapy_cases
 import writer_cases
 from capture import Capture
 from report import Report
-from settings import WAYS, free_port
+from settings import WAYS, WHOLE_LIMIT, free_port
 
 
 def clients(report, program, port):
@@ -30,6 +31,11 @@ def captured(report, program, file, port):
     capture_cases.replies(report, file, port)
 
 
+def break_off(number, _):
+    """Leaves by an exception, so that every process that was started is ended."""
+    sys.exit(f"interop: broken off by {signal.Signals(number).name}")
+
+
 def main(program, library, file):
     report = Report()
     report.group("host", host_cases.errors, program, free_port())
@@ -42,4 +48,7 @@ def main(program, library, file):
     return report.end()
 
 
+for taken in (signal.SIGALRM, signal.SIGTERM):
+    signal.signal(taken, break_off)
+signal.alarm(WHOLE_LIMIT)
 sys.exit(main(*sys.argv[1:]))

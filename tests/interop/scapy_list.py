@@ -51,7 +51,7 @@ SILENT = [
     ("Message-Authenticator twice", lambda: with_macs(bytes(16), bytes(16)), "D5"),
     ("Event-Timestamp of 3 bytes", lambda: request(DISCONNECT, USER, attribute(55, bytes(3))), "D6"),
     ("Event-Timestamp twice", lambda: request(DISCONNECT, USER, stamp(), stamp()), "D6"),
-    ("a stamp of 301 s ago", lambda: request(DISCONNECT, USER, stamp(-301)), "D6"),
+    ("a stamp of 302 s ago", lambda: request(DISCONNECT, USER, stamp(-302)), "D6"),  # the host's time() may be a second behind Python's
     ("a stamp of 1970", lambda: request(DISCONNECT, USER, number(55, 0)), "D6"),
 ]
 
