@@ -6,7 +6,7 @@ from pathlib import Path
 from typing import NamedTuple
 
 from datagrams import asked
-from settings import LIMIT
+from settings import LIMIT, START_LIMIT
 
 TRUE = {"1", "True"}  # both fields are always there; how they are written depends on tshark's version
 
@@ -33,7 +33,7 @@ class Capture:
 
     def __enter__(self):
         """Waits until it captures: a byte that is sent to the port has to turn up in the file."""
-        end = time.monotonic() + LIMIT
+        end = time.monotonic() + START_LIMIT
         while time.monotonic() < end and self.process.poll() is None:
             probe(self.port)
             if self.path.exists() and self.packets():

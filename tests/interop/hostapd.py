@@ -4,7 +4,7 @@ import tempfile
 import time
 from pathlib import Path
 
-from settings import LIMIT, SECRET
+from settings import LIMIT, SECRET, START_LIMIT
 
 PROGRAM = "/usr/sbin/hostapd"
 CONFIGURATION = """interface=das0
@@ -31,7 +31,7 @@ class Hostapd:
             self.process = subprocess.Popen([PROGRAM, "-dd", str(settings)], stdout=log, stderr=subprocess.STDOUT)
 
     def __enter__(self):
-        end = time.monotonic() + LIMIT
+        end = time.monotonic() + START_LIMIT
         while "AP-ENABLED" not in self.log.read_text():
             if self.process.poll() is not None or time.monotonic() > end:
                 self.process.kill()

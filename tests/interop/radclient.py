@@ -13,8 +13,8 @@ class Ran(NamedTuple):
 
     def verdict(self):
         """What radclient says against the reply, if anything."""
-        said = self.output.strip().splitlines() or [""]
-        return "as expected" if self.status == 0 else "no reply" if "No reply from server" in said[-1] else said[-1]
+        said = [line for line in self.output.splitlines() if line.startswith("(")]  # (0) FILE: what is wrong
+        return "as expected" if self.status == 0 else "no reply" if "No reply from server" in self.output else "; ".join(said)
 
 
 def radclient(port, command, requests, filters=None, *options, secret=SECRET, wait=LIMIT):

@@ -9,6 +9,7 @@ NAS_IP, NAS_ID = "192.0.2.7", "oak-gate"
 WAYS = {"whole": [], "steps": ["--steps"]}  # how the host works on requests, and the options for it
 QUIET = 0.3  # seconds without a reply that count as none; what the host writes says so too
 LIMIT = 5  # seconds after which one thing is waited for no longer
+START_LIMIT = 20  # the same for a program of others to be ready
 WHOLE_LIMIT = 900  # the same for the whole run, which takes about one minute
 DISCONNECT, COA = 40, 43
 ACK, NAK = 1, 2  # added to the code of the request
