@@ -5,7 +5,7 @@
 #include <sys/select.h>
 
 static volatile sig_atomic_t ended, table_asked;
-static sigset_t before; /* the signals that were blocked before take_signals */
+static sigset_t before, blocked; /* the signals that are blocked while it waits, and while it works */
 
 static void note(int number)
 {
@@ -19,11 +19,11 @@ void take_signals(void)
 {
     static const int taken[] = {SIGTERM, SIGINT, SIGUSR1};
     struct sigaction action = {.sa_handler = note};
-    sigset_t blocked;
-    sigemptyset(&blocked);
+    sigprocmask(SIG_SETMASK, NULL, &before);
+    blocked = before;
     for (size_t i = 0; i < sizeof taken / sizeof *taken; i++)
         sigaddset(&blocked, taken[i]);
-    sigprocmask(SIG_BLOCK, &blocked, &before);
+    sigprocmask(SIG_SETMASK, &blocked, NULL);
     for (size_t i = 0; i < sizeof taken / sizeof *taken; i++)
         sigaction(taken[i], &action, NULL);
 }
@@ -35,7 +35,10 @@ int wait_for_packet(int socket, long milliseconds)
     FD_ZERO(&sockets);
     if (socket >= 0)
         FD_SET(socket, &sockets);
-    return pselect(socket + 1, &sockets, NULL, NULL, milliseconds < 0 ? NULL : &time, &before) == 1;
+    int there = pselect(socket + 1, &sockets, NULL, NULL, milliseconds < 0 ? NULL : &time, &before) == 1;
+    sigprocmask(SIG_SETMASK, &before, NULL); /* pselect() lets no signal in where packets come without a pause */
+    sigprocmask(SIG_SETMASK, &blocked, NULL);
+    return there;
 }
 
 int is_ended(void) { return ended; }

@@ -62,6 +62,6 @@ def ends(report, program, port):
         table = host.table()
         begin = time.monotonic()
         status, last = host.end()
-    found = status, len(table), last.split("ended; ")[1], time.monotonic() - begin < 1
+    found = status, len(table), last.split("ended; ")[1], time.monotonic() - begin < LIMIT
     wanted = 0, 4, "packets: 0, replies: 0, requests dropped in work: 4", True
     report.same(found, wanted, "host", "six slow requests: four in work, two not read, the table printed, ended at once")

@@ -6,12 +6,18 @@ class Report:
     def __init__(self):
         self.passed = self.failed = 0
 
+    def head(self):
+        self.row("result", "client", "case")
+
+    def row(self, *columns):
+        print("{:<7} {:<17} {}".format(*columns), flush=True)
+
     def same(self, found, wanted, client, case):
         """One case: a row of the table."""
         is_same = found == wanted
         self.passed += is_same
         self.failed += not is_same
-        print(f"{'passed' if is_same else 'FAILED'}  {client:<17} {case}", flush=True)
+        self.row("passed" if is_same else "FAILED", client, case)
         if not is_same:
             print(f"        wanted: {wanted}\n        found:  {found}", flush=True)
 

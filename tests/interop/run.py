@@ -38,6 +38,7 @@ def break_off(number, _):
 
 def main(program, library, file):
     report = Report()
+    report.head()
     report.group("host", host_cases.errors, program, free_port())
     report.group("host", host_cases.ends, program, free_port())
     report.group("tshark", captured, program, file, free_port())

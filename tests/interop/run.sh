@@ -7,5 +7,7 @@ tests/interop/tools.sh || exit 1
 samples/host/build.sh || exit 1
 mkdir -p target/interop
 gcc -shared -o target/interop/libcapi.so -Wl,--whole-archive target/staticlib/libcapi.a -Wl,--no-whole-archive || exit 1
+echo 'interop: Debian packages of the clients:'
+dpkg-query -W freeradius-utils hostapd python3-pyrad python3-scapy tshark
 python=$(tests/interop/python.sh) || exit 1
 exec "$python" tests/interop/run.py target/host/fumbokeri-host target/interop/libcapi.so target/interop/capture.pcapng
