@@ -7,5 +7,6 @@ for tool in rt gcc; do
 done
 rt staticlib capi || exit 1
 mkdir -p target/host
-gcc -std=c99 -D_POSIX_C_SOURCE=200809L -Wall -Wextra -O2 -o target/host/fumbokeri-host samples/host/*.c samples/show.c target/staticlib/libcapi.a || exit 1
+gcc -std=c99 -D_POSIX_C_SOURCE=200809L -Wall -Wextra -O2 -o target/host/fumbokeri-host \
+    samples/host/*.c samples/show.c target/staticlib/libcapi.a || exit 1
 echo 'host: target/host/fumbokeri-host is built; samples/host/rooms.txt is a session table for it'

@@ -45,7 +45,8 @@ def errors(report, program, port):
             path = Path(room, "rooms.txt")
             path.write_text(text)
             found = ran(program, "--port", "0", path)
-            report.same((found.returncode, f"rooms.txt:{line}: " in found.stderr, said in found.stderr), (2, True, True), "host", f"error in rooms: {title}")
+            says = f"rooms.txt:{line}: " in found.stderr, said in found.stderr
+            report.same((found.returncode, *says), (2, True, True), "host", f"error in rooms: {title}")
     with Host(program, port):
         found = ran(program, "--port", str(port), ROOMS)
     report.same((found.returncode, f"UDP port {port} of 127.0.0.1: Address already in use" in found.stderr), (1, True), "host", "error: port in use")

@@ -69,4 +69,5 @@ def together(report, program, port):
         ran = radclient(port, "coa", requests, filters, "-p", "10")
         told = [host.told() for _ in requests]
     jobs = {line.job.split(",")[0] for line in told}
-    report.same((ran.verdict(), sorted(jobs)), ("as expected", [f"job {number}" for number in range(4)]), "radclient, steps", "coa: ten at once, by four jobs")
+    wanted = "as expected", {f"job {number}" for number in range(4)}
+    report.same((ran.verdict(), jobs), wanted, "radclient, steps", "coa: ten at once, by four jobs")
