@@ -1,7 +1,8 @@
-"""The guides: every file and name that they cite exists, every row of the trace shows something, every quotation is traced."""
+"""The guides: every file and name that they cite exists, every row of the trace shows something, every quotation is traced,
+and the reading guide leaves no definition out."""
 from pathlib import Path
 
-from citations import Repository, citations, crates_listed, plain, quotations, row_fault, rows
+from citations import Repository, citations, crates_listed, decisions, paragraphs, plain, quotations, row_fault, rows
 
 ROOT = Path(__file__).parent.parent
 TRACE, READING = "docs/TRACE.md", "docs/READING.md"
@@ -15,11 +16,11 @@ def judge(tally, place, what, fault):
     tally.passed += not fault
 
 
-def cited(name):
+def cited(name, kind=citations):
     def group(probe, tally):
         repository = Repository(ROOT)
-        for number, line in enumerate((ROOT / name).read_text().splitlines(), 1):
-            for span, fault in citations(repository, line):
+        for number, words in paragraphs((ROOT / name).read_text()):
+            for span, fault in kind(repository, words):
                 judge(tally, f"{name}:{number}", span, fault)
     return group
 
@@ -36,6 +37,15 @@ def quoted(probe, tally):
         judge(tally, f"{READING}:{number}", words, None if plain(words) in traced else f"stands in no row of {TRACE}")
 
 
+def read(probe, tally):
+    """Every definition has its place in the guide: to be read, or to be skipped."""
+    guide = (ROOT / READING).read_text()
+    for place in sorted(ROOT.glob("crates/*/specs/*.antt")):
+        name = str(place.relative_to(ROOT / "crates"))
+        if place.name != "Lib.antt":
+            judge(tally, READING, name, None if f"`{name}`" in guide else "named nowhere")
+
+
 def listed(probe, tally):
     repository = Repository(ROOT)
     names = crates_listed((ROOT / "README.md").read_text())
@@ -48,5 +58,7 @@ GROUPS = [
     ("citations of the reading guide", cited(READING)),
     ("rows of the trace", shown),
     ("quotations of the reading guide", quoted),
+    ("definitions in the reading guide", read),
     ("README's table of crates", listed),
+    ("decisions that README cites", cited("README.md", decisions)),
 ]

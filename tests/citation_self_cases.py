@@ -2,7 +2,7 @@
 import tempfile
 from pathlib import Path
 
-from citations import Repository, citations, crates_listed, plain, quotations, row_fault, rows
+from citations import Repository, citations, crates_listed, paragraphs, plain, quotations, row_fault, rows
 
 FILES = {
     "crates.txt": "# a floor\nmade:\nother: made\n",
@@ -16,14 +16,14 @@ FILES = {
 }
 RIGHT = [
     "`made`", "`made/wrong-way`", "`made/specs/Facts.antt` `fact`, `Rec` and `field`", "`crates/made/src/lib.rt`", "`made/src/lib.rt` (`Thing`, `act`)",
-    "`made::act`", "`made::Thing`", "`made::inner::helper`", "`made::Thing::move_on`", "`docs/DECISIONS.md`, 1 and 2", "DECISIONS 2",
+    "`made::act`", "`made::Thing`", "`made::inner::helper`", "`made::Thing::move_on`", "`docs/DECISIONS.md`, 1 and 2", "DECISIONS 2", "docs/DECISIONS.md, 1, 2",
     "`tests/`", "`tests/some_cases.py` `group`, `LIMIT`", "`make demo`",
 ]
 WRONG = [
     "`maid`", "`made/wrong-turn`", "`other/wrong-way`", "`made/*`", "`tests/no_cases.py`", "`no/such`", "`made/nowhere/`", "`tests/some_cases.py/`",
     "`made/specs/Facts.antt` `fac`", "`made/specs/Facts.antt` `said`", "`made/specs/Facts.antt` `spoken`", "`made/specs/Facts.antt`; `fact`",
     "`made/src/lib.rt` `helper`", "`made/src/lib.rt` `spok`", "`made::helper`", "`made::inner::act`", "`made::Thing::helper`", "`made::Think::move_on`", "`maid::act`",
-    "`docs/DECISIONS.md`, 1 and 7", "DECISIONS 3", "`tests/some_cases.py` `inside`", "`make tea`", "`made/specs/Facts.antt` `fact`, `none`",
+    "`docs/DECISIONS.md`, 1 and 7", "DECISIONS 3", "docs/DECISIONS.md, 1, 2, and 3", "`tests/some_cases.py` `inside`", "`make tea`", "`made/specs/Facts.antt` `fact`, `none`",
 ]
 NO_CITATION = ["`now (x .entry)`", "`λ r.`", "`requires`", "words alone"]
 
@@ -56,6 +56,11 @@ def table_rows(probe, tally):
         tally.same(faults, [None, "a dash for what is built", "nothing is cited", None], "rows")
 
 
+def lines(probe, tally):
+    text = "# Head\n\nA name that\ngoes on\n| a row |\n| b row |\nand on\n"
+    tally.same(list(paragraphs(text)), [(1, "# Head"), (3, "A name that goes on"), (5, "| a row |"), (6, "| b row |"), (7, "and on")], "paragraphs")
+
+
 def quotes(probe, tally):
     tally.same(list(quotations('"Two words" and "these are four words" in `"code of four words"`')), [(1, "these are four words")], "quotations")
     tally.same(plain("All *house*  rules"), "All house rules", "plain words")
@@ -69,6 +74,7 @@ def readme(probe, tally):
 GROUPS = [
     ("the citations: each kind, right and wrong", kinds),
     ("the citations: rows that show nothing", table_rows),
+    ("the citations: paragraphs", lines),
     ("the citations: quotations", quotes),
     ("the citations: README's table", readme),
 ]

@@ -3,11 +3,11 @@ import re
 from pathlib import Path
 
 NUMBERS = r"\d+(?:(?:, and | and |, )\d+)*"
-DECISIONS = re.compile(rf"DECISIONS(?:\.md`)?,? ({NUMBERS})")
+DECISIONS = re.compile(rf"DECISIONS(?:\.md)?`?,? ({NUMBERS})")
 SPAN = re.compile(r"`([^`]+)`")
 NAME = re.compile(r"[A-Za-z0-9][\w′-]*")
 BETWEEN = re.compile(r"(?:[\s,(]|and )*")  # what may stand between a file and the names that stand in it
-WORDS = {"requires", "ensures", "now", "cond", "abbrev", "unfoldable", "record", "unfolding", "pub"}  # words of the language: no citations
+WORDS = {"requires", "ensures", "cond", "eqb", "ltb", "leb", "subℕ", "abbrev", "unfoldable", "pub", "record"}  # of the language: no citations
 
 # how a name is defined, by the ending of its file
 DEFINED = {
@@ -85,8 +85,23 @@ def span_fault(repository, span, file):
     return None if span in repository.crates else "no crate, and no file before it"
 
 
+def paragraphs(text):
+    """The text without its line breaks, as (number of the first line, words); a row of a table stands alone."""
+    held, first = [], 0
+    for number, line in enumerate([*text.splitlines(), ""], 1):
+        alone = line.startswith("|")
+        if held and (alone or not line.strip()):
+            yield first, " ".join(held)
+            held = []
+        if alone:
+            yield number, line
+        elif line.strip():
+            first = first if held else number
+            held.append(line.strip())
+
+
 def citations(repository, text):
-    """The citations of a line, each with why it is wrong, or None."""
+    """The citations of a paragraph, each with why it is wrong, or None."""
     found, file, end = [], None, 0
     for match in SPAN.finditer(text):
         span = match[1]
@@ -99,11 +114,14 @@ def citations(repository, text):
             file = repository.path(span)
             file = file if file and file.is_file() and file.suffix in DEFINED else None
         end = match.end()
+    return found + decisions(repository, text)
+
+
+def decisions(repository, text):
+    """The decisions that a paragraph cites by number."""
     known = repository.decisions()
-    for numbers in DECISIONS.findall(text):
-        for number in map(int, re.findall(r"\d+", numbers)):
-            found.append((f"decision {number}", None if number in known else "no such decision"))
-    return found
+    numbers = [int(number) for match in DECISIONS.findall(text) for number in re.findall(r"\d+", match)]
+    return [(f"decision {number}", None if number in known else "no such decision") for number in numbers]
 
 
 def rows(text):
@@ -127,8 +145,8 @@ def plain(text):
 
 def quotations(text):
     """What a guide quotes, three words or more, as (line number, words)."""
-    for number, line in enumerate(text.splitlines(), 1):
-        for quoted in re.findall(r'"([^"]+)"', SPAN.sub("", line)):
+    for number, words in paragraphs(text):
+        for quoted in re.findall(r'"([^"]+)"', SPAN.sub("", words)):
             if len(quoted.split()) >= 3:
                 yield number, quoted
 

@@ -39,6 +39,7 @@ status=$?
 if [ "$status" -ne 0 ] || [ -n "$layout" ]; then fail 'rt fmt --check'; fi
 
 part 'the gate itself' tests/gate_test.sh
+part 'citations of the guides' python3 tests/trace_check.py
 part 'rt ci' rt ci
 part 'must-fail logs' tests/must_fail_logs.sh
 part 'tests outside the prover' tests/outside.sh

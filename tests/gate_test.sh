@@ -7,7 +7,7 @@ room=$(mktemp -d) || exit 1
 trap 'rm -rf "$room"' EXIT
 trap 'exit 1' HUP INT TERM
 
-# The repository: the real gate; one edit; and two parts that only count, as the gate would test itself without end.
+# The repository: the real gate; one edit; and three parts that only count, as the gate would test itself without end.
 repo=$room/repo
 mkdir -p "$repo/.ci" "$repo/tests" "$repo/crates/made/must-fail"
 cp Makefile "$repo"
@@ -16,6 +16,10 @@ cp tests/gate.sh tests/must_fail_logs.sh tests/outside.sh "$repo/tests"
 echo 'an edit' >"$repo/crates/made/must-fail/loop.edit"
 printf '#!/bin/sh\necho "2 passed, 0 failed"\n' >"$repo/tests/gate_test.sh"
 chmod +x "$repo/tests/gate_test.sh"
+cat >"$repo/tests/trace_check.py" <<'EOF'
+import os
+print(os.environ.get("CITED_LAST", "5 passed, 0 failed"))
+EOF
 cat >"$repo/tests/run.py" <<'EOF'
 import os, sys
 print(os.environ.get("RUN_LAST", "4 passed, 0 failed"))
@@ -68,7 +72,7 @@ try() { # WHAT STATUS LAST [NAME=VALUE...]: how .ci/run must end with these vari
 }
 bad=2 # what make exits with where a recipe fails
 
-try 'all well' 0 '10 passed, 0 failed' # 3 of rt, 1 log, 4 of run.py, 2 of the gate
+try 'all well' 0 '15 passed, 0 failed' # 3 of rt, 1 log, 4 of run.py, 2 of the gate, 5 citations
 try 'a file out of layout' $bad 'failed: rt fmt --check' FMT_STATUS=1 FMT_SAYS='x.rt is not in the layout'
 try 'a layout that cannot be tested' $bad 'failed: rt fmt --check' FMT_STATUS=2
 try 'a word of rt fmt' $bad 'failed: rt fmt --check' FMT_SAYS='x.rt is not in the layout'
@@ -82,8 +86,9 @@ for gone in Need-loop-holds InvT-loop MeasureT-loop; do
     says="\`tie.$gone\`: module \`made.Tie\` has no \`$gone\` that can be named from here"
     try "an edit that takes $gone away" $bad 'failed: must-fail logs (exit 1, 0 passed, 1 failed)' FIRST="$says"
     same 'that edit is named' "$(grep -c '^must-fail made/loop: shows nothing' "$room/output")" 1
-    try "an edit where $gone is gone, behind a better error" 0 '10 passed, 0 failed' SECOND="$says"
+    try "an edit where $gone is gone, behind a better error" 0 '15 passed, 0 failed' SECOND="$says"
 done
+try 'a wrong citation' $bad 'failed: citations of the guides (exit 0, 4 passed, 1 failed)' CITED_LAST='4 passed, 1 failed'
 try 'no library' $bad 'failed: tests outside the prover (exit 1, with no count)' LIB_STATUS=1
 try 'a test fails' $bad 'failed: tests outside the prover (exit 1, 3 passed, 1 failed)' RUN_STATUS=1 RUN_LAST='3 passed, 1 failed'
 try 'the tests crash' $bad 'failed: tests outside the prover (exit 139, with no count)' RUN_STATUS=139 RUN_LAST='a group: 3 passed, 0 failed'
