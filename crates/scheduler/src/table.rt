@@ -47,7 +47,7 @@ pub fn end(s: Scheduler, t: &mut [u8], k: usize) -> Called
 {
     match sessions::remove(t, k) {
         sessions::Removed::Gone => Called {
-            scheduler: super::work::restart_all(s),
+            scheduler: super::work::restart_all(s), // an end restarts
             outcome: Outcome::Ended,
         },
         sessions::Removed::NotRemoved(n) => Called {
