@@ -1,5 +1,7 @@
 # What this repository does. The work is in the scripts under tests/, bench/ and samples/host/.
 .PHONY: demo test bench host interop
+# What this repository does. The work is in the scripts under tests/ and bench/.
+.PHONY: demo test bench record
 
 # the proved code at work: on the vectors of the RFCs, and in a small gate in C
 demo:
@@ -9,7 +11,7 @@ demo:
 test:
 	@tests/gate.sh
 
-# instructions and time beside OpenSSL and plain C
+# the figures: instructions beside MD5, OpenSSL and the peers, growth, code size, stack; fails where one is worse than recorded
 bench:
 	@bench/run.sh
 
@@ -20,3 +22,8 @@ host:
 # real RADIUS clients against that host, and our requests against a real server; installs what it needs
 interop:
 	@tests/interop/run.sh
+	@bench/run.sh compare
+
+# the same, and then the figures are the recorded ones: bench/expected.txt, docs/growth.svg
+record:
+	@bench/run.sh record

@@ -1,71 +1,51 @@
-"""Measures the proved code beside OpenSSL and plain C, the walk over the session table, the verdict, whole requests and steps:
-python3 bench/measure.py BENCH WALK VERDICT HANDLE STEPS. Fails where a target is missed."""
-import subprocess
+"""Measures the library and prints one table: python3 bench/measure.py compare|record. 'compare' fails where a figure is worse than the
+recorded one or a goal is missed that is no known miss; 'record' makes the figures the recorded ones, and draws their growth."""
 import sys
 
-import callgrind
-import handle
-import steps
-import verdict
-import walk
-
-# The most instructions that the proved code may take, as a multiple of OpenSSL's.
-TARGETS = {
-    ("MD5", 64): 1.05,
-    ("MD5", 4096): 1.05,
-}
-
-CASES = [(what, size) for what in ("MD5", "HMAC") for size in (64, 1024, 4096)]
-WHO = ("proved", "openssl", "plain")
+import digests
+import growth
+import memory
+import plot
+import recorded
+import rows
+import works
 
 
-def nanoseconds(bench):
-    """Of one call, by case and who."""
-    run = subprocess.run([bench, "time"], stdout=subprocess.PIPE, text=True)
-    if run.returncode != 0:
-        sys.exit("bench: no times")
-    times = {}
-    for line in run.stdout.splitlines():
-        who, what, size, time = line.split()
-        times[what, int(size), who] = float(time)
-    return times
+def table(expected):
+    """Prints all parts; their rows."""
+    rows.head()
+    all_rows = []
+    for title, part in [
+        ("whole requests through fbk_handle, in instructions", works.requests()),
+        ("steps of a job through fbk_step_by_value, in instructions", works.steps()),
+        ("growth: what twice as much takes, what a slot more takes", growth.ratios()),
+        ("code by `size`, stack by painting it before a call, in bytes", [*memory.code(), *memory.stack()]),
+    ]:
+        part = list(part)
+        rows.show(title, part, expected)
+        all_rows += part
+    print("growth of a whole request, in instructions")
+    growth.grid("bytes of the packet", growth.BY_LENGTH, growth.LENGTHS)
+    growth.grid("slots of the table; all but the last", growth.BY_SLOTS, growth.SLOTS)
+    print("MD5 and HMAC-MD5")
+    return all_rows + list(growth.points()) + digests.show(expected)
 
 
-def digests(bench):
-    """Prints the table of MD5 and HMAC; the targets that are missed."""
-    times = nanoseconds(bench)
-    print("                     instructions for one call                        nanoseconds, best of many")
-    print("             proved  OpenSSL  plain C  ratio  target          proved  OpenSSL  plain C  ratio")
-    missed = []
-    for what, size in CASES:
-        counts = [callgrind.per_call([bench, "count", who, what, str(size)]) for who in WHO]
-        spans = [times[what, size, who] for who in WHO]
-        ratio, target = counts[0] / counts[1], TARGETS.get((what, size))
-        row = f"{what:5}{size:5,}" + "".join(f"{count:9,.0f}" for count in counts) + f"{ratio:7.3f}"
-        row += f"{target:8.2f}" if target else " " * 8
-        row += " " * 7 + "".join(f"{span:9,.0f}" for span in spans) + f"{spans[0] / spans[1]:7.2f}"
-        print(row, flush=True)
-        if target and ratio > target:
-            missed.append(f"{what} of {size:,} bytes takes {ratio:.3f} times OpenSSL's instructions, the target is {target:.2f}")
-    print("The ratios are to OpenSSL.")
-    return missed
-
-
-def main():
-    bench, walker, judge, handler, stepper = sys.argv[1:]
-    missed = digests(bench)
+def main(mode):
+    expected = recorded.read()
+    measured = table(expected)
     print()
-    missed += walk.slots(walker)
-    print()
-    missed += verdict.verdicts(bench, judge)
-    print()
-    missed += handle.requests(handler)
-    print()
-    missed += steps.steps(stepper)
-    for line in missed:
-        print("missed:", line)
-    print("failed: a target is missed" if missed else "every target is met")
-    return 1 if missed else 0
+    if mode == "record":
+        recorded.write(measured)
+        plot.draw(recorded.read())
+        print(f"recorded: {recorded.PLACE} and {plot.PLACE}")
+        return 0
+    faults = list(dict.fromkeys(filter(None, (rows.fault(row, expected) for row in measured))))
+    for fault in faults:
+        print("failed:", fault)
+    known = sum(rows.missed(row) for row in measured)
+    print(f"{len(faults)} figures fail" if faults else f"every figure holds; {known} goals are missed, and known: docs/DECISIONS.md says why")
+    return 1 if faults else 0
 
 
-sys.exit(main())
+sys.exit(main(sys.argv[1]))

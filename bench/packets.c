@@ -15,15 +15,15 @@ static void put(uint8_t kind, const void *value, size_t n)
     length += n + 2;
 }
 
-/* The head, and a stamp of now. */
 static void begin(void)
 {
     memset(packet, 0, 20);
     packet[0] = 40;
     packet[1] = 7;
     length = 20;
-    put(55, "\x65\x53\xF1\x00", 4);
 }
+
+static void put_stamp(void) { put(55, "\x65\x53\xF1\x00", 4); }
 
 /* The authenticator is of zeros until here. */
 static void sign(void)
@@ -39,6 +39,7 @@ static void sign(void)
 void make_disconnect(int with_mac)
 {
     begin();
+    put_stamp();
     put(4, "\xC0\0\2\7", 4);
     put(32, nas_id, sizeof nas_id);
     put(1, "alice@example.org", 17);
@@ -59,8 +60,11 @@ void make_states(size_t n, size_t each)
 {
     static const uint8_t value[253] = "proxy state";
     begin();
+    if (n > length)
+        put_stamp();
     while (n - length >= each + 3)
         put(33, value, each - 2);
-    put(33, value, n - length - 2);
+    if (n > length)
+        put(33, value, n - length - 2);
     sign();
 }

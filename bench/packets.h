@@ -11,5 +11,5 @@ extern size_t length;
 /* For the session of alice@example.org: 102 bytes, or 120 with a Message-Authenticator, last. */
 void make_disconnect(int with_mac);
 
-/* Length n of Proxy-States of so many bytes each; the last is longer where they do not fill it. */
+/* Length n: a stamp, then Proxy-States of so many bytes each; the last is longer where they do not fill it. Length 20 has no attribute. */
 void make_states(size_t n, size_t each);

@@ -1,20 +1,33 @@
 #!/bin/sh
-# The benchmark, `make bench`. bench/run.sh PROBE TABLE PACKETS LIBRARY measures these archives and not those that rt writes.
+# The benchmark: bench/run.sh compare (`make bench`) or record (`make record`). Behind the word, three archives may be named,
+# PROBE PROBE_PACKETS LIBRARY: these are measured, and not those that rt writes.
 set -u
 cd "$(dirname "$0")/.." || exit 1
+mode=${1:-compare}
+[ $# -eq 0 ] || shift
 bench/tools.sh || exit 1
 if [ $# -eq 0 ]; then
-    for name in probe probe_table probe_packets capi; do
+    for name in probe probe_packets capi; do
         rt staticlib "$name" || exit 1
         set -- "$@" "target/staticlib/lib$name.a"
     done
 fi
 
 mkdir -p target/bench
-# OpenSSL calls its MD5_Init family deprecated; -z now, so that no call counts the search for a symbol.
-gcc -O2 -Wall -Wno-deprecated-declarations -o target/bench/bench bench/bench.c bench/plain.c "$1" -lcrypto -Wl,-z,now || exit 1
-gcc -O2 -Wall -o target/bench/walk bench/walk.c "$2" -Wl,-z,now || exit 1
-gcc -O2 -Wall -o target/bench/verdict bench/verdict.c bench/packets.c bench/plain.c "$3" -Wl,-z,now || exit 1
-gcc -O2 -Wall -o target/bench/handle bench/handle.c bench/packets.c bench/plain.c "$4" -Wl,-z,now || exit 1
-gcc -O2 -Wall -o target/bench/steps bench/steps.c bench/packets.c bench/plain.c "$4" -Wl,-z,now || exit 1
-exec python3 bench/measure.py target/bench/bench target/bench/walk target/bench/verdict target/bench/handle target/bench/steps
+# -z now, so that no call counts the search for a symbol.
+built() { # PROGRAM WORD...: of these sources and archives
+    program=$1
+    shift
+    gcc -std=c99 -O2 -Wall -Wextra -o "target/bench/$program" "$@" -Wl,-z,now || exit 1
+}
+requests='bench/packets.c bench/plain.c'
+# shellcheck disable=SC2086 # one word to a file
+{
+    built digests -Wno-deprecated-declarations bench/digests.c bench/plain.c "$1" -lcrypto # OpenSSL calls MD5_Init deprecated
+    built reading bench/reading.c $requests "$2"
+    built handle bench/handle.c bench/sessions.c $requests "$3"
+    built steps bench/steps.c $requests "$3"
+    built stack bench/stack.c bench/sessions.c $requests "$3"
+}
+for functions in 0 1 9; do built "linked$functions" "-DLINKED=$functions" bench/linked.c "$3" -Wl,--gc-sections; done
+exec python3 bench/measure.py "$mode"

@@ -1,7 +1,8 @@
-/* The driver of the benchmark.
- *   bench count WHO WHAT SIZE RUNS    runs one case, for callgrind to count
- *   bench time                        prints 'WHO WHAT SIZE NANOSECONDS' for every case, the best of many rounds
+/* MD5 and HMAC-MD5: ours, OpenSSL's and those of plain C.
+ *   digests count WHO WHAT SIZE RUNS    runs one case, for callgrind to count
+ *   digests time                        prints 'WHO WHAT SIZE NANOSECONDS' for every case, the best of many rounds
  */
+#define _POSIX_C_SOURCE 199309L /* for clock_gettime */
 #include <openssl/evp.h>
 #include <openssl/hmac.h>
 #include <openssl/md5.h>
@@ -17,7 +18,7 @@ uint32_t probe_hmac(const uint8_t *key, size_t key_len, const uint8_t *m, size_t
 
 static const uint8_t key[16] = "sixteen byte key";
 static const size_t sizes[] = {64, 1024, 4096};
-static uint8_t message[4096];
+static uint8_t message[4096 + 64]; /* a packet, and a secret behind it */
 
 static void proved_md5(size_t n, uint8_t *out) { probe_md5(message, n, out, 16); }
 static void proved_hmac(size_t n, uint8_t *out) { probe_hmac(key, sizeof key, message, n, out, 16); }
@@ -96,7 +97,7 @@ static int agree(void)
         for (size_t e = 0; e < ENTRIES; e++) {
             table[e].run(sizes[s], out[e]);
             if (memcmp(out[e], out[e / 3 * 3], 16) != 0) {
-                fprintf(stderr, "bench: %s and %s differ in %s of %zu bytes\n", table[e].who, table[e / 3 * 3].who, table[e].what, sizes[s]);
+                fprintf(stderr, "digests: %s and %s differ in %s of %zu bytes\n", table[e].who, table[e / 3 * 3].who, table[e].what, sizes[s]);
                 return 0;
             }
         }
@@ -107,7 +108,7 @@ static int agree(void)
 int main(int argc, char **argv)
 {
     for (size_t i = 0; i < sizeof message; i++)
-        message[i] = i * 7 + 1;
+        message[i] = (uint8_t)(i * 7 + 1);
     if (argc == 6 && strcmp(argv[1], "count") == 0)
         return count(argv[2], argv[3], strtoul(argv[4], NULL, 10), strtol(argv[5], NULL, 10));
     if (argc == 2 && strcmp(argv[1], "time") == 0 && agree()) {
