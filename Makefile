@@ -2,6 +2,12 @@
 .PHONY: demo test bench host interop
 # What this repository does. The work is in the scripts under tests/ and bench/.
 .PHONY: demo test bench record
+# What this repository does. The work is in the scripts under tests/, bench/ and include/.
+.PHONY: demo test bench record install uninstall
+
+# where the library goes; DESTDIR, put before it, is for packages
+PREFIX = /usr/local
+export DESTDIR
 
 # the proved code at work: on the vectors of the RFCs, and in a small gate in C
 demo:
@@ -27,3 +33,11 @@ interop:
 # the same, and then the figures are the recorded ones: bench/expected.txt, docs/growth.svg
 record:
 	@bench/run.sh record
+
+# header, archive and pkg-config file under PREFIX; ARCHIVE=.. installs that one and proves nothing
+install:
+	@include/install.sh install "$(PREFIX)" "$(ARCHIVE)"
+
+# removes what install put there
+uninstall:
+	@include/install.sh uninstall "$(PREFIX)"

@@ -40,7 +40,8 @@ def main(mode):
         plot.draw(recorded.read())
         print(f"recorded: {recorded.PLACE} and {plot.PLACE}")
         return 0
-    faults = list(dict.fromkeys(filter(None, (rows.fault(row, expected) for row in measured))))
+    measured = list({row.name or row.title: row for row in reversed(measured)}.values())  # one that stands in two parts fails once
+    faults = [fault for fault in (rows.fault(row, expected) for row in reversed(measured)) if fault]
     for fault in faults:
         print("failed:", fault)
     known = sum(rows.missed(row) for row in measured)
