@@ -63,8 +63,8 @@ def curves(figures, kinds, sizes):
 
 
 def floor(figures):
-    """The MD5 blocks of a request and of a reply as long, the secret of 10 bytes behind each."""
-    return [(size, 2 * works.blocks(size + 10) * figures["md5-block"]) for size in growth.LENGTHS[1:]]
+    """The MD5 blocks of a request and of a reply as long."""
+    return [(size, 2 * works.blocks(size + works.SECRET) * figures["md5-block"]) for size in growth.LENGTHS[1:]]
 
 
 def panel(x, title, unit, lines, ticks):

@@ -36,16 +36,23 @@ def verdict(row):
     return "reached" + (f" (so decision {row.decision} is out of date)" if row.decision else "")
 
 
+def unrecorded(row, expected):
+    return row.name is not None and row.name not in expected
+
+
+def worse(row, expected):
+    return row.name in expected and row.ours > expected[row.name] * WORSE
+
+
 def change(row, expected):
     """What the recorded figure says to this one."""
-    if row.name is None:
-        return ""
-    if row.name not in expected:
+    if unrecorded(row, expected):
         return "not recorded"
-    was = expected[row.name]
-    if row.ours > was * WORSE:
-        return f"WORSE, was {number(was)}"
-    return f"better, was {number(was)}" if row.ours < was * BETTER else ""
+    if worse(row, expected):
+        return f"WORSE, was {number(expected[row.name])}"
+    if row.name in expected and row.ours < expected[row.name] * BETTER:
+        return f"better, was {number(expected[row.name])}"
+    return ""
 
 
 LEGEND = """Instructions are counted by valgrind --tool=callgrind. MD5 floor: the blocks that the work must hash, at what one takes here; OpenSSL: its MD5 of
@@ -69,9 +76,8 @@ def show(title, rows, expected):
 
 def fault(row, expected):
     """Why the benchmark fails for this row; empty where it does not."""
-    told = change(row, expected)
-    if told.startswith(("WORSE", "not")):
-        return f"{row.title}: {number(row.ours)}, {told}"
+    if unrecorded(row, expected) or worse(row, expected):
+        return f"{row.title}: {number(row.ours)}, {change(row, expected)}"
     if missed(row) and row.decision is None:
         return f"{row.title}: {number(row.ours)}, the goal is {number(row.goal)}"
     return ""

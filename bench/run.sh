@@ -3,17 +3,22 @@
 # PROBE PROBE_PACKETS LIBRARY: these are measured, and not those that rt writes.
 set -u
 cd "$(dirname "$0")/.." || exit 1
-mode=${1:-compare}
-[ $# -eq 0 ] || shift
+mode=${1:-}
+case $mode in
+compare | record) shift ;;
+*) echo 'bench/run.sh compare|record [PROBE PROBE_PACKETS LIBRARY]' >&2; exit 2 ;;
+esac
 bench/tools.sh || exit 1
+mkdir -p target/bench
 if [ $# -eq 0 ]; then
     for name in probe probe_packets capi; do
-        rt staticlib "$name" || exit 1
+        log=target/bench/$name.log
+        echo "bench: rt builds $name, which it proves first where that was not done before; it reports to $log"
+        rt staticlib "$name" >"$log" 2>&1 || { cat "$log"; exit 1; }
         set -- "$@" "target/staticlib/lib$name.a"
     done
 fi
 
-mkdir -p target/bench
 # -z now, so that no call counts the search for a symbol.
 built() { # PROGRAM WORD...: of these sources and archives
     program=$1

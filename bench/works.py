@@ -1,25 +1,31 @@
-"""Whole requests, and the steps of a job, through C."""
+"""Whole requests, and the steps of a job, through C, beside what MD5 and the peers take."""
 import callgrind
 from rows import Row
 
-# What a request has hashed, in bytes of each MD5 message, with a secret of 10 bytes: an authenticator is over the packet and the secret; a
-# Message-Authenticator over a key pad of 64 bytes and the packet, then over a pad and 16 bytes.
-ONCE_112 = [102 + 10]
-ONCE_130 = [120 + 10]
-REPLY_34 = [34 + 10]
-MAC_120 = [64 + 120, 64 + 16]
-REPLY_52 = [64 + 52, 64 + 16, 52 + 10]
-BOTH_4096 = [4096 + 10] * 2
+SECRET, PAD, DIGEST = 10, 64, 16  # bytes of the secret, of a key pad and of an MD5
 
-HOSTAPD_PLAIN, HOSTAPD_MAC, HOSTAPD_FORGED = "hostapd 11,648", "hostapd 20,100", "hostapd 5,718"
-# kind and size for bench/handle.c, title, MD5 messages, what the peers take, goal, decision
+
+def authenticator(size):
+    """The MD5 messages of a packet's authenticator, in bytes."""
+    return [size + SECRET]
+
+
+def mac(size):
+    """The same of its Message-Authenticator: the inner hash and the outer."""
+    return [PAD + size, PAD + DIGEST]
+
+
+PLAIN = authenticator(102) + authenticator(34)
+WITH_MAC = authenticator(120) + mac(120) + mac(52) + authenticator(52)
+ECHOED = authenticator(4096) + authenticator(4096)
+# kind and size for bench/handle.c, title, MD5 messages of request and reply, what a peer takes, goal, decision
 REQUESTS = [
-    ("plain", 64, "Disconnect, no MAC, 102 bytes, 64 slots, all live", ONCE_112 + REPLY_34, HOSTAPD_PLAIN, 4500, 34),
-    ("lone", 64, "the same, one slot live", ONCE_112 + REPLY_34, HOSTAPD_PLAIN, 4500, 34),
-    ("mac", 64, "Disconnect, MAC, 120 bytes, 64 slots, all live", ONCE_130 + MAC_120 + REPLY_52, HOSTAPD_MAC, 12000, 34),
-    ("short", 4096, "4,096 bytes of 3-byte Proxy-States, echoed", BOTH_4096, "FreeRADIUS 256,195", 200000, 34),
-    ("long", 4096, "4,096 bytes of 255-byte Proxy-States, echoed", BOTH_4096, "FreeRADIUS 256,195", 200000, None),
-    ("forged", 64, "wrong authenticator, 120 bytes", ONCE_130, HOSTAPD_FORGED, 3000, None),
+    ("plain", 64, "Disconnect, no MAC, 102 bytes, 64 slots, all live", PLAIN, "hostapd 11,648", 4500, 34),
+    ("lone", 64, "the same, one slot live", PLAIN, "hostapd 11,648", 4500, 34),
+    ("mac", 64, "Disconnect, MAC, 120 bytes, 64 slots, all live", WITH_MAC, "hostapd 20,100", 12000, 34),
+    ("short", 4096, "4,096 bytes of 3-byte Proxy-States, echoed", ECHOED, "FreeRADIUS 256,195", 200000, 34),
+    ("long", 4096, "4,096 bytes of 255-byte Proxy-States, echoed", ECHOED, "FreeRADIUS 256,195", 200000, None),
+    ("forged", 64, "wrong authenticator, 120 bytes", authenticator(120), "hostapd 5,718", 3000, None),
 ]
 
 
