@@ -1,6 +1,7 @@
 """Counts instructions with callgrind."""
 import functools
 import re
+import shutil
 import subprocess
 import sys
 
@@ -16,10 +17,11 @@ def per_call(program, *words, function=None):
 
 
 def collected(command, function):
-    callgrind = ["valgrind", "--tool=callgrind", "--callgrind-out-file=/dev/null"]
+    callgrind = [shutil.which("valgrind"), "--tool=callgrind", "--callgrind-out-file=/dev/null"]
     if function is not None:
         callgrind.append(f"--toggle-collect={function}")
-    run = subprocess.run(callgrind + command, capture_output=True, text=True)
+    # no environment: its size moves the stack, and memset takes more or less by where that is
+    run = subprocess.run(callgrind + command, env={}, capture_output=True, text=True)
     found = re.search(r"Collected : (\d+)", run.stderr)
     if run.returncode != 0 or not found:
         sys.exit(f"bench: no count of {' '.join(command)}\n{run.stderr}")

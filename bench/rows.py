@@ -1,9 +1,7 @@
 """A row of the table: a figure, what it is held against, and what comes of it."""
 from typing import NamedTuple
 
-# A figure fails above so many times the recorded one, and is called better below so many; between lies what memset and memcpy take by where
-# the stack happens to be.
-WORSE, BETTER = 1.03, 0.99
+WORSE, BETTER = 1.03, 0.99  # a figure fails above so many times the recorded one, and is called better below so many
 
 
 class Row(NamedTuple):
