@@ -17,6 +17,12 @@ static uint32_t I(uint32_t x, uint32_t y, uint32_t z) { return y ^ (x | ~z); }
 
 /* RFC 1321, 3.4: a = b + ((a + f(b,c,d) + X[k] + T[i]) <<< s), where t is T[i] */
 #define STEP(f, a, b, c, d, k, s, t) a = b + rotl(a + f(b, c, d) + x[k] + t, s)
+/* Four of them, of which the first takes X[k] and each next one that is so many words on */
+#define FOUR(f, k, on, s1, s2, s3, s4, t1, t2, t3, t4)  \
+    STEP(f, a, b, c, d, k, s1, t1);                     \
+    STEP(f, d, a, b, c, (k + on) % 16, s2, t2);         \
+    STEP(f, c, d, a, b, (k + 2 * on) % 16, s3, t3);     \
+    STEP(f, b, c, d, a, (k + 3 * on) % 16, s4, t4)
 
 static void md5_block(uint32_t state[4], const uint8_t *m)
 {
@@ -26,73 +32,25 @@ static void md5_block(uint32_t state[4], const uint8_t *m)
 
     uint32_t a = state[0], b = state[1], c = state[2], d = state[3];
 
-    STEP(F, a, b, c, d, 0, 7, 0xd76aa478);
-    STEP(F, d, a, b, c, 1, 12, 0xe8c7b756);
-    STEP(F, c, d, a, b, 2, 17, 0x242070db);
-    STEP(F, b, c, d, a, 3, 22, 0xc1bdceee);
-    STEP(F, a, b, c, d, 4, 7, 0xf57c0faf);
-    STEP(F, d, a, b, c, 5, 12, 0x4787c62a);
-    STEP(F, c, d, a, b, 6, 17, 0xa8304613);
-    STEP(F, b, c, d, a, 7, 22, 0xfd469501);
-    STEP(F, a, b, c, d, 8, 7, 0x698098d8);
-    STEP(F, d, a, b, c, 9, 12, 0x8b44f7af);
-    STEP(F, c, d, a, b, 10, 17, 0xffff5bb1);
-    STEP(F, b, c, d, a, 11, 22, 0x895cd7be);
-    STEP(F, a, b, c, d, 12, 7, 0x6b901122);
-    STEP(F, d, a, b, c, 13, 12, 0xfd987193);
-    STEP(F, c, d, a, b, 14, 17, 0xa679438e);
-    STEP(F, b, c, d, a, 15, 22, 0x49b40821);
+    FOUR(F, 0, 1, 7, 12, 17, 22, 0xd76aa478, 0xe8c7b756, 0x242070db, 0xc1bdceee);
+    FOUR(F, 4, 1, 7, 12, 17, 22, 0xf57c0faf, 0x4787c62a, 0xa8304613, 0xfd469501);
+    FOUR(F, 8, 1, 7, 12, 17, 22, 0x698098d8, 0x8b44f7af, 0xffff5bb1, 0x895cd7be);
+    FOUR(F, 12, 1, 7, 12, 17, 22, 0x6b901122, 0xfd987193, 0xa679438e, 0x49b40821);
 
-    STEP(G, a, b, c, d, 1, 5, 0xf61e2562);
-    STEP(G, d, a, b, c, 6, 9, 0xc040b340);
-    STEP(G, c, d, a, b, 11, 14, 0x265e5a51);
-    STEP(G, b, c, d, a, 0, 20, 0xe9b6c7aa);
-    STEP(G, a, b, c, d, 5, 5, 0xd62f105d);
-    STEP(G, d, a, b, c, 10, 9, 0x02441453);
-    STEP(G, c, d, a, b, 15, 14, 0xd8a1e681);
-    STEP(G, b, c, d, a, 4, 20, 0xe7d3fbc8);
-    STEP(G, a, b, c, d, 9, 5, 0x21e1cde6);
-    STEP(G, d, a, b, c, 14, 9, 0xc33707d6);
-    STEP(G, c, d, a, b, 3, 14, 0xf4d50d87);
-    STEP(G, b, c, d, a, 8, 20, 0x455a14ed);
-    STEP(G, a, b, c, d, 13, 5, 0xa9e3e905);
-    STEP(G, d, a, b, c, 2, 9, 0xfcefa3f8);
-    STEP(G, c, d, a, b, 7, 14, 0x676f02d9);
-    STEP(G, b, c, d, a, 12, 20, 0x8d2a4c8a);
+    FOUR(G, 1, 5, 5, 9, 14, 20, 0xf61e2562, 0xc040b340, 0x265e5a51, 0xe9b6c7aa);
+    FOUR(G, 5, 5, 5, 9, 14, 20, 0xd62f105d, 0x02441453, 0xd8a1e681, 0xe7d3fbc8);
+    FOUR(G, 9, 5, 5, 9, 14, 20, 0x21e1cde6, 0xc33707d6, 0xf4d50d87, 0x455a14ed);
+    FOUR(G, 13, 5, 5, 9, 14, 20, 0xa9e3e905, 0xfcefa3f8, 0x676f02d9, 0x8d2a4c8a);
 
-    STEP(H, a, b, c, d, 5, 4, 0xfffa3942);
-    STEP(H, d, a, b, c, 8, 11, 0x8771f681);
-    STEP(H, c, d, a, b, 11, 16, 0x6d9d6122);
-    STEP(H, b, c, d, a, 14, 23, 0xfde5380c);
-    STEP(H, a, b, c, d, 1, 4, 0xa4beea44);
-    STEP(H, d, a, b, c, 4, 11, 0x4bdecfa9);
-    STEP(H, c, d, a, b, 7, 16, 0xf6bb4b60);
-    STEP(H, b, c, d, a, 10, 23, 0xbebfbc70);
-    STEP(H, a, b, c, d, 13, 4, 0x289b7ec6);
-    STEP(H, d, a, b, c, 0, 11, 0xeaa127fa);
-    STEP(H, c, d, a, b, 3, 16, 0xd4ef3085);
-    STEP(H, b, c, d, a, 6, 23, 0x04881d05);
-    STEP(H, a, b, c, d, 9, 4, 0xd9d4d039);
-    STEP(H, d, a, b, c, 12, 11, 0xe6db99e5);
-    STEP(H, c, d, a, b, 15, 16, 0x1fa27cf8);
-    STEP(H, b, c, d, a, 2, 23, 0xc4ac5665);
+    FOUR(H, 5, 3, 4, 11, 16, 23, 0xfffa3942, 0x8771f681, 0x6d9d6122, 0xfde5380c);
+    FOUR(H, 1, 3, 4, 11, 16, 23, 0xa4beea44, 0x4bdecfa9, 0xf6bb4b60, 0xbebfbc70);
+    FOUR(H, 13, 3, 4, 11, 16, 23, 0x289b7ec6, 0xeaa127fa, 0xd4ef3085, 0x04881d05);
+    FOUR(H, 9, 3, 4, 11, 16, 23, 0xd9d4d039, 0xe6db99e5, 0x1fa27cf8, 0xc4ac5665);
 
-    STEP(I, a, b, c, d, 0, 6, 0xf4292244);
-    STEP(I, d, a, b, c, 7, 10, 0x432aff97);
-    STEP(I, c, d, a, b, 14, 15, 0xab9423a7);
-    STEP(I, b, c, d, a, 5, 21, 0xfc93a039);
-    STEP(I, a, b, c, d, 12, 6, 0x655b59c3);
-    STEP(I, d, a, b, c, 3, 10, 0x8f0ccc92);
-    STEP(I, c, d, a, b, 10, 15, 0xffeff47d);
-    STEP(I, b, c, d, a, 1, 21, 0x85845dd1);
-    STEP(I, a, b, c, d, 8, 6, 0x6fa87e4f);
-    STEP(I, d, a, b, c, 15, 10, 0xfe2ce6e0);
-    STEP(I, c, d, a, b, 6, 15, 0xa3014314);
-    STEP(I, b, c, d, a, 13, 21, 0x4e0811a1);
-    STEP(I, a, b, c, d, 4, 6, 0xf7537e82);
-    STEP(I, d, a, b, c, 11, 10, 0xbd3af235);
-    STEP(I, c, d, a, b, 2, 15, 0x2ad7d2bb);
-    STEP(I, b, c, d, a, 9, 21, 0xeb86d391);
+    FOUR(I, 0, 7, 6, 10, 15, 21, 0xf4292244, 0x432aff97, 0xab9423a7, 0xfc93a039);
+    FOUR(I, 12, 7, 6, 10, 15, 21, 0x655b59c3, 0x8f0ccc92, 0xffeff47d, 0x85845dd1);
+    FOUR(I, 8, 7, 6, 10, 15, 21, 0x6fa87e4f, 0xfe2ce6e0, 0xa3014314, 0x4e0811a1);
+    FOUR(I, 4, 7, 6, 10, 15, 21, 0xf7537e82, 0xbd3af235, 0x2ad7d2bb, 0xeb86d391);
 
     state[0] += a;
     state[1] += b;
