@@ -1,9 +1,5 @@
-# What this repository does. The work is in the scripts under tests/, bench/ and samples/host/.
-.PHONY: demo test bench host interop
-# What this repository does. The work is in the scripts under tests/ and bench/.
-.PHONY: demo test bench record
-# What this repository does. The work is in the scripts under tests/, bench/ and include/.
-.PHONY: demo test bench record install uninstall
+# What this repository does. The work is in the scripts under tests/, bench/, include/ and samples/host/.
+.PHONY: demo test bench record install uninstall host interop
 
 # where the library goes; DESTDIR, put before it, is for packages
 PREFIX = /usr/local
@@ -19,15 +15,6 @@ test:
 
 # the figures: instructions beside MD5, OpenSSL and the peers, growth, code size, stack; fails where one is worse than recorded
 bench:
-	@bench/run.sh
-
-# a host to test RADIUS clients with: the library behind a UDP port of 127.0.0.1
-host:
-	@samples/host/build.sh
-
-# real RADIUS clients against that host, and our requests against a real server; installs what it needs
-interop:
-	@tests/interop/run.sh
 	@bench/run.sh compare
 
 # the same, and then the figures are the recorded ones: bench/expected.txt, docs/growth.svg
@@ -41,3 +28,11 @@ install:
 # removes what install put there
 uninstall:
 	@include/install.sh uninstall "$(PREFIX)"
+
+# a host to test RADIUS clients with: the library behind a UDP port of 127.0.0.1
+host:
+	@samples/host/build.sh
+
+# real RADIUS clients against that host, and our requests against a real server; installs what it needs
+interop:
+	@tests/interop/run.sh
