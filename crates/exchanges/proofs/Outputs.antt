@@ -12,7 +12,7 @@ use Rattle.octets.proofs.Write.{length-write}
 use Rattle.signing.specs.Signing.{zeros}
 use Rattle.rules.specs.Packet.{lengthOf}
 use Rattle.rules.specs.Discards.{formOf, Sized, signedBy, badMac}
-use Rattle.reply.proofs.Packets.{length-signed, packet-low}
+use Rattle.frames.proofs.Packets.{length-signed, packet-low}
 use Rattle.replies.proofs.Readback.{head-four, signed-length}
 use Rattle.requests.specs.Writer.{Draft, badGiven, writeRefusal, requestLength, requestOf, writeOutput}
 use Rattle.requests.proofs.Refusals.{taken}

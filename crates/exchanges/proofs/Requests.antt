@@ -10,8 +10,8 @@ use Rattle.attributes.specs.Attributes.{attributes, tiled, any, kindIs}
 use Rattle.signing.specs.Signing.{zeros}
 use Rattle.signing.proofs.Messages.{length-zeros}
 use Rattle.rules.specs.Discards.{badCode, formOf, signedBy, badMac}
-use Rattle.reply.specs.Rooms.{macRoom}
-use Rattle.reply.proofs.Packets.{valued, packet, packetLength, packetMac, packetAuth, signedPacket}
+use Rattle.frames.specs.Rooms.{macRoom}
+use Rattle.frames.proofs.Packets.{valued, packet, packetLength, packetMac, packetAuth, signedPacket}
 use Rattle.replies.proofs.Plain.{Plain}
 use Rattle.replies.proofs.Readback.{signed-code}
 use Rattle.replies.proofs.Passing.{packet-sized, packet-tiled, packet-authentic, packet-mac}

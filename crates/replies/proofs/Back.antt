@@ -9,7 +9,7 @@ use Rattle.causes.specs.declared.Cause.{Cause}
 use Rattle.rules.specs.Packet.{codeOf, identifierOf, lengthOf, authOf, areaOf}
 use Rattle.rules.specs.Verdict.{applies}
 use Rattle.reply.specs.Reply.{bodyOf, macPart, replyLength, headOf, replyWith, replyMac, replyAuth, replyOf}
-use Rattle.reply.proofs.Packets.{valued, packet, packetLength, packetMac, packetAuth, signedPacket}
+use Rattle.frames.proofs.Packets.{valued, packet, packetLength, packetMac, packetAuth, signedPacket}
 use Rattle.replies.proofs.Readback.{signed-code, signed-identifier, signed-length, signed-auth, signed-area}
 
 -- the request has a type 80

@@ -16,7 +16,7 @@ use Rattle.signing.specs.Signing.{authenticator, messageAuthenticator}
 use Rattle.signing.proofs.Messages.{length-zeros}
 use Rattle.rules.specs.Packet.{lengthOf, authOf, areaOf}
 use Rattle.rules.specs.Discards.{badLength, badAttributes, wrongMac, badMac}
-use Rattle.reply.proofs.Packets.{valued, packetLength, packetMac, packetAuth, signedPacket, length-signed, length-packetMac, packet-low}
+use Rattle.frames.proofs.Packets.{valued, packetLength, packetMac, packetAuth, signedPacket, length-signed, length-packetMac, packet-low}
 use Rattle.replies.proofs.Plain.{Plain}
 use Rattle.replies.proofs.Trailing.{trailing, trailer, trailing-first, trailing-once, trailing-tiled, trailing-value}
 use Rattle.replies.proofs.Readback.{head-four, signed-length, signed-auth, signed-area}

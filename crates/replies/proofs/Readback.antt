@@ -11,7 +11,7 @@ use Rattle.octets.specs.Numbers.{beBytes}
 use Rattle.octets.specs.Runs.{part}
 use Rattle.octets.proofs.Numbers.{be-two, length-beBytes}
 use Rattle.rules.specs.Packet.{codeOf, identifierOf, lengthOf, authOf, areaOf}
-use Rattle.reply.proofs.Packets.{valued, packet, packetLength, packetMac, packetAuth, signedPacket, length-packet, length-packetMac, length-packetAuth}
+use Rattle.frames.proofs.Packets.{valued, packet, packetLength, packetMac, packetAuth, signedPacket, length-packet, length-packetMac, length-packetAuth}
 
 -- the middle and the end of a list of parts
 part-middle : (x v y : List ℕ) (i n : ℕ) → length x ≡ i → length v ≡ n → part i n (x ++ v ++ y) ≡ v

@@ -12,7 +12,7 @@ use Rattle.rules.specs.Packet.{authOf, areaOf}
 use Rattle.rules.specs.Discards.{Sized}
 use Rattle.reply.specs.Reply.{bodyOf, macPart, replyLength, headOf, replyWith, replyMac, replyAuth, replyOf}
 use Rattle.reply.proofs.Lengths.{length-auth, length-head}
-use Rattle.reply.proofs.Packets.{valued, packet, packetLength, packetMac, packetAuth, signedPacket}
+use Rattle.frames.proofs.Packets.{valued, packet, packetLength, packetMac, packetAuth, signedPacket}
 use Rattle.replies.proofs.Back.{maced, reply-auth}
 use Rattle.replies.proofs.Signatures.{packet-signed, packet-value, packet-maced}
 

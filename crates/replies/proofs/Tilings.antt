@@ -24,7 +24,7 @@ use Rattle.rules.specs.Packet.{areaOf}
 use Rattle.rules.specs.Verdict.{applies}
 use Rattle.reply.specs.Reply.{asCame, ifFound, statePart, causePart, proxiesIn, proxyPart, bodyOf, macPart, replyLength, replyMac, replyOf}
 use Rattle.reply.proofs.Lengths.{length-replyMac}
-use Rattle.reply.proofs.Packets.{valued}
+use Rattle.frames.proofs.Packets.{valued}
 use Rattle.replies.proofs.Back.{maced, reply-area}
 use Rattle.replies.proofs.Plain.{Plain, plain-nil, plain-both, plain-bytes}
 use Rattle.replies.proofs.Trailing.{trailing-tiled}

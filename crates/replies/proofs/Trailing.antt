@@ -9,7 +9,7 @@ use Rattle.attributes.specs.declared.Attribute.{Attribute}
 use Rattle.attributes.specs.Attributes.{attributes, valueOf, tiled, firstOf, countOf, kindIs, behind, bytesOf}
 use Rattle.attributes.proofs.Areas.{tiled-both, attributes-append, nil-tiled, nil-attributes, bytes-tiled, bytes-attributes, bytes-value, value-behind, lone}
 use Rattle.attributes.proofs.Searches.{any-none, count-append, first-behind}
-use Rattle.reply.proofs.Packets.{valued}
+use Rattle.frames.proofs.Packets.{valued}
 use Rattle.replies.proofs.Plain.{Plain}
 
 -- the attribute itself, and where it is present the list of it

@@ -14,7 +14,7 @@ use Rattle.causes.specs.declared.Cause.{Cause}
 use Rattle.rules.specs.Packet.{authOf, areaOf}
 use Rattle.rules.specs.Discards.{Sized}
 use Rattle.reply.specs.Reply.{bodyOf, macPart, replyLength, headOf, replyWith, replyMac, replyAuth, replyOf}
-use Rattle.reply.proofs.Packets.{valued, packet, packetLength, length-packet}
+use Rattle.frames.proofs.Packets.{valued, packet, packetLength, length-packet}
 
 pub length-auth : (p : List ℕ) (n : ℕ) → Sized p n → length (authOf p) ≡ 16
 length-auth p n z = length-part 4 16 p (omega (arith, z .low, z .given))

@@ -1,9 +1,5 @@
-pub mod Writes
 pub mod Pieces
 pub mod States
 pub mod Proxies
-pub mod Packets
 pub mod Lengths
-pub mod Sealing
 pub mod Replying
-pub mod Rooms

@@ -20,11 +20,11 @@ use Rattle.rules.specs.Packet.{codeOf, authOf, areaOf}
 use Rattle.rules.specs.Discards.{formOf, badLength, badCode, badAttributes, Sized}
 use Rattle.rules.proofs.Verdicts.{area-of}
 use Rattle.reply.specs.Reply.{statePart, causePart, proxyPart, bodyOf, macPart, replyLength, headOf, replyWith, replyMac, replyAuth, replyOf}
-use Rattle.reply.specs.Rooms.{macRoom, withMac}
-use Rattle.reply.proofs.Writes.{write-before}
+use Rattle.frames.specs.Rooms.{macRoom, withMac}
+use Rattle.frames.proofs.Writes.{write-before}
 use Rattle.reply.proofs.Lengths.{length-auth, length-head}
-use Rattle.reply.proofs.Packets.{valued, packet, packetLength, packetMac, packetAuth, signedPacket}
-use Rattle.reply.proofs.Sealing.{sealed}
+use Rattle.frames.proofs.Packets.{valued, packet, packetLength, packetMac, packetAuth, signedPacket}
+use Rattle.frames.proofs.Sealing.{sealed}
 
 -- a request's code is 40 or 43
 code-of : (k : ℕ) (a b x z : Bool) → eqb k 40 ≡ a → eqb k 43 ≡ b → _≡_ {A = ℕ} (cond x 1 (cond (not (a || b)) 2 (cond z 3 0))) 0 → k < 64

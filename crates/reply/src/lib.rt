@@ -1,7 +1,5 @@
-// The reply to a request: what stands where is in parts.rt, the signatures in seal.rt.
-pub mod frame; // frame.rt: front, attribute, room for type 80
+// The reply to a request: what stands where.
 mod parts; // parts.rt: head and attributes
-pub mod seal; // seal.rt: the signatures
 
 ghost use mathlib.Core.Path.{_≡_};
 ghost use Prim.Native.Nat.{_≤_};
@@ -35,8 +33,8 @@ pub fn write_reply(
     let auth = octets::slice(p, 4, 16);
     let present = survey::kept::has(count, 80);
     let body = parts::put_body(&mut *reply, s, p[0], cause, f, count, ends, sizes);
-    let e = frame::put_room(&mut *reply, body, present);
+    let e = frames::put_room(&mut *reply, body, present);
     parts::put_head(&mut *reply, p, cause, e, auth);
-    seal::put_seals(reply, e, auth, secret, present);
+    frames::seal::put_seals(reply, e, auth, secret, present);
     e
 }

@@ -11,10 +11,9 @@ ghost use Rattle.survey.specs.Survey.{Surveyed};
 ghost use Rattle.rules.specs.Packet.{codeOf};
 ghost use Rattle.rules.specs.Verdict.{applies};
 ghost use Rattle.reply.specs.Reply.{asCame, statePart, causePart, proxyPart, replyLength, headOf};
-use crate::frame;
-use crate::frame::put;
 use attributes::Attribute;
 use causes::Cause;
+use frames::put;
 
 fn wide(x: u8) -> usize
     ensures { λ r. ⌜ (r ≡ x) × (r < 256) ⌝ }
@@ -149,5 +148,5 @@ pub fn put_head(t: &mut [u8], p: &[u8], cause: Cause, n: usize, auth: &[u8])
     requires { ⌜ (n ≡ replyLength (now p) cause) × (n ≤ 4096) ⌝ }
     ensures { λ _. ⌜ now (t .exit) ≡ write (now (t .entry)) 0 (headOf (now (p .entry)) cause ++ now (auth .entry)) ⌝ }
 {
-    frame::put_front(t, p[0] + added(cause), p[1], n, auth);
+    frames::put_front(t, p[0] + added(cause), p[1], n, auth);
 }

@@ -15,10 +15,10 @@ use Rattle.octets.proofs.Write.{write-then}
 use Rattle.attributes.specs.Attributes.{attributes, tiled, any, kindIs}
 use Rattle.signing.specs.Signing.{zeros, authenticator}
 use Rattle.signing.proofs.Messages.{length-zeros}
-use Rattle.reply.specs.Rooms.{macRoom, withMac}
-use Rattle.reply.proofs.Writes.{write-before}
-use Rattle.reply.proofs.Packets.{valued, packet, packetLength, packetMac, packetAuth, signedPacket}
-use Rattle.reply.proofs.Sealing.{sealed}
+use Rattle.frames.specs.Rooms.{macRoom, withMac}
+use Rattle.frames.proofs.Writes.{write-before}
+use Rattle.frames.proofs.Packets.{valued, packet, packetLength, packetMac, packetAuth, signedPacket}
+use Rattle.frames.proofs.Sealing.{sealed}
 use Rattle.requests.specs.Writer.{draft, badGiven, macAdded, requestLength, requestWith, requestMac, requestAuth, requestOf}
 
 -- R13 does not apply: the attributes have room, type 80 with them

@@ -7,7 +7,7 @@ ghost use lib.ListN.{length};
 ghost use Rattle.octets.specs.Runs.{write};
 ghost use Rattle.attributes.specs.Attributes.{attributes, tiled, any, kindIs};
 ghost use Rattle.signing.specs.Signing.{zeros, authenticator};
-ghost use Rattle.reply.specs.Rooms.{macRoom, withMac};
+ghost use Rattle.frames.specs.Rooms.{macRoom, withMac};
 ghost use Rattle.requests.specs.Writer.{draft, badGiven, writeRefusal, requestLength, requestOf};
 
 // R12's codes: Disconnect-Request or CoA-Request.
@@ -88,7 +88,7 @@ fn put_seals(out: &mut [u8], n: usize, add: bool, secret: &[u8])
     ensures { λ _. ⌜ now (out .exit) ≡ write (withMac «add» zeros (now (out .entry)) n (now (secret .entry))) 4 (authenticator zeros (withMac «add» zeros (now (out .entry)) n (now (secret .entry))) n (now (secret .entry))) ⌝ }
 {
     let zero = [0u8; 16];
-    reply::seal::put_seals(out, n, &zero, secret, add);
+    frames::seal::put_seals(out, n, &zero, secret, add);
 }
 
 // Writes a request that is not refused, and returns its length.
@@ -106,8 +106,8 @@ pub fn put_request(
 {
     let zero = [0u8; 16];
     octets::copy(&mut *out, 20, given);
-    let e = reply::frame::put_room(&mut *out, 20 + given.len(), add);
-    reply::frame::put_front(&mut *out, code, identifier, e, &zero);
+    let e = frames::put_room(&mut *out, 20 + given.len(), add);
+    frames::put_front(&mut *out, code, identifier, e, &zero);
     put_seals(out, e, add, secret);
     e
 }

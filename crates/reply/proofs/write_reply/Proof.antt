@@ -6,7 +6,7 @@ use native.Mathlib.Omega.{arith}
 use denote.Ref.{now}
 use lib.ListN.{length}
 use Rattle.reply.specs.Reply.{replyLength}
-use Rattle.reply.specs.Rooms.{macRoom}
+use Rattle.frames.specs.Rooms.{macRoom}
 use Rattle.rules.proofs.Verdicts.{area-of, surveyed-at}
 use Rattle.reply.proofs.Replying.{code-low, auth-long, body-fits, room-fits, end-is, replied}
 use borrow.Author.Needs.{needs}

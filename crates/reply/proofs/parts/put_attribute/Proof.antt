@@ -1,6 +1,7 @@
 -- `reply::parts::put_attribute` meets its contract: the attribute as it came is its type, its length and its value.
 -- Assumes nothing.
-use Rattle.reply.proofs.Pieces.{came, named-fits, named-written, named-end}
+use Rattle.frames.proofs.Fronts.{named-fits, named-written, named-end}
+use Rattle.reply.proofs.Pieces.{came}
 use borrow.Author.Needs.{needs}
 use Rattle.reply.proofs.parts.put_attribute.Statement.{statement}
 use Rattle.reply.proofs.parts.put_attribute.Tie as tie

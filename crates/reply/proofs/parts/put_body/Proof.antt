@@ -1,6 +1,6 @@
 -- `reply::parts::put_body` meets its contract: three writes, each behind the one before.
 -- Assumes nothing.
-use Rattle.reply.proofs.Writes.{room-one, room-two, room-three, three-end, write-three}
+use Rattle.frames.proofs.Writes.{room-one, room-two, room-three, three-end, write-three}
 use borrow.Author.Needs.{needs}
 use Rattle.reply.proofs.parts.put_body.Statement.{statement}
 use Rattle.reply.proofs.parts.put_body.Tie as tie

@@ -1,6 +1,6 @@
 -- `reply::parts::put_state` meets its contract: the pass over the attributes says where the first State stands, or that there is none.
 -- Assumes nothing.
-use Rattle.reply.proofs.Pieces.{named-fits, named-written, named-end, nothing-written, nothing-end}
+use Rattle.frames.proofs.Fronts.{named-fits, named-written, named-end, nothing-written, nothing-end}
 use Rattle.reply.proofs.States.{state-sub, state-stands, state-some, state-none}
 use borrow.Author.Needs.{needs}
 use Rattle.reply.proofs.parts.put_state.Statement.{statement}

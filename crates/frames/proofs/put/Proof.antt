@@ -1,11 +1,11 @@
--- `reply::frame::put` meets its contract: two stores, and the value behind them.
+-- `frames::put` meets its contract: two stores, and the value behind them.
 -- Assumes nothing.
 use native.Mathlib.Omega.{arith}
 use lib.ListN.{length-set}
-use Rattle.reply.proofs.Writes.{write-two, two-long}
+use Rattle.frames.proofs.Writes.{write-two, two-long}
 use borrow.Author.Needs.{needs}
-use Rattle.reply.proofs.frame.put.Statement.{statement}
-use Rattle.reply.proofs.frame.put.Tie as tie
+use Rattle.frames.proofs.put.Statement.{statement}
+use Rattle.frames.proofs.put.Tie as tie
 
 slice-write-t-2 : tie.Need-slice-write-t-2
 slice-write-t-2 c = simp length-set (omega arith)

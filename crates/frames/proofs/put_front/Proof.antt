@@ -1,11 +1,11 @@
--- `reply::frame::put_front` meets its contract: two stores and two writes, one behind the other.
+-- `frames::put_front` meets its contract: two stores and two writes, one behind the other.
 -- Assumes nothing.
 use native.Mathlib.Omega.{arith}
 use lib.ListN.{length-set}
-use Rattle.reply.proofs.Pieces.{front-written, front-long, front-room}
+use Rattle.frames.proofs.Fronts.{front-written, front-long, front-room}
 use borrow.Author.Needs.{needs}
-use Rattle.reply.proofs.frame.put_front.Statement.{statement}
-use Rattle.reply.proofs.frame.put_front.Tie as tie
+use Rattle.frames.proofs.put_front.Statement.{statement}
+use Rattle.frames.proofs.put_front.Tie as tie
 
 slice-write-t-2 : tie.Need-slice-write-t-2
 slice-write-t-2 c = simp length-set (omega arith)

@@ -1,9 +1,9 @@
--- `reply::seal::put_seals` meets its contract: the first call leaves the Message-Authenticator, and the second signs what it left.
+-- `frames::seal::put_seals` meets its contract: the first call leaves the Message-Authenticator, and the second signs what it left.
 -- Assumes nothing.
 use borrow.Author.Needs.{needs}
-use Rattle.reply.proofs.Sealing.{then-signed}
-use Rattle.reply.proofs.seal.put_seals.Statement.{statement}
-use Rattle.reply.proofs.seal.put_seals.Tie as tie
+use Rattle.frames.proofs.Sealing.{then-signed}
+use Rattle.frames.proofs.seal.put_seals.Statement.{statement}
+use Rattle.frames.proofs.seal.put_seals.Tie as tie
 
 pub put-seals-spec : {M : Type 1} → statement M
 put-seals-spec =

@@ -1,9 +1,9 @@
--- `reply::seal::put_mac` meets its contract: the value worked out is copied to its place.
+-- `frames::seal::put_mac` meets its contract: the value worked out is copied to its place.
 -- Assumes nothing.
-use Rattle.reply.proofs.Rooms.{room-low, mac-written, mac-none}
+use Rattle.frames.proofs.Rooms.{room-low, mac-written, mac-none}
 use borrow.Author.Needs.{needs}
-use Rattle.reply.proofs.seal.put_mac.Statement.{statement}
-use Rattle.reply.proofs.seal.put_mac.Tie as tie
+use Rattle.frames.proofs.seal.put_mac.Statement.{statement}
+use Rattle.frames.proofs.seal.put_mac.Tie as tie
 
 message-authenticator-requires : tie.Need-message-authenticator-requires
 message-authenticator-requires c κs = search (needs, room-low)

@@ -1,11 +1,13 @@
 // What every packet is written with, reply or request: the front before the attributes, an attribute, and room for type 80 behind them.
+pub mod seal; // seal.rt: the signatures
+
 ghost use mathlib.Core.Path.{_≡_};
 ghost use mathlib.Core.List.{_∷_, _++_};
 ghost use Prim.Native.Nat.{_+_, _≤_};
 ghost use lib.ListN.{length};
 ghost use Rattle.octets.specs.Numbers.{beBytes};
 ghost use Rattle.octets.specs.Runs.{write};
-ghost use Rattle.reply.specs.Rooms.{macRoom};
+ghost use Rattle.frames.specs.Rooms.{macRoom};
 
 // An attribute: type, length, value. Returns the place behind it.
 pub fn put(t: &mut [u8], to: usize, kind: u8, size: u8, v: &[u8]) -> usize

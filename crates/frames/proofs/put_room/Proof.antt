@@ -1,9 +1,9 @@
--- `reply::frame::put_room` meets its contract: type 80 with sixteen zeros, or nothing.
+-- `frames::put_room` meets its contract: type 80 with sixteen zeros, or nothing.
 -- Assumes nothing.
-use Rattle.reply.proofs.Pieces.{room-bytes, room-none, named-fits, named-written, named-end, nothing-written, nothing-end}
+use Rattle.frames.proofs.Fronts.{room-bytes, room-none, named-fits, named-written, named-end, nothing-written, nothing-end}
 use borrow.Author.Needs.{needs}
-use Rattle.reply.proofs.frame.put_room.Statement.{statement}
-use Rattle.reply.proofs.frame.put_room.Tie as tie
+use Rattle.frames.proofs.put_room.Statement.{statement}
+use Rattle.frames.proofs.put_room.Tie as tie
 
 put-requires : tie.Need-put-requires
 put-requires c κs = search (needs, named-fits, room-bytes)

@@ -5,7 +5,7 @@ ghost use Prim.Native.Nat.{_+_, _≤_};
 ghost use lib.ListN.{length};
 ghost use Rattle.octets.specs.Runs.{write};
 ghost use Rattle.signing.specs.Signing.{authenticator};
-ghost use Rattle.reply.specs.Rooms.{macRoom, withMac};
+ghost use Rattle.frames.specs.Rooms.{macRoom, withMac};
 
 // Writes the Message-Authenticator, where the packet has one.
 fn put_mac(t: &mut [u8], n: usize, auth: &[u8], secret: &[u8], present: bool)

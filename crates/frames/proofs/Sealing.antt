@@ -11,9 +11,9 @@ use Rattle.octets.specs.Runs.{write}
 use Rattle.octets.proofs.Write.{take-write}
 use Rattle.signing.specs.Signing.{zeros, authenticator, messageAuthenticator}
 use Rattle.signing.proofs.Messages.{Alike, same-first, same-authenticator, same-messageAuthenticator, length-zeros}
-use Rattle.reply.specs.Rooms.{withMac}
-use Rattle.reply.proofs.Writes.{write-last, write-middle}
-use Rattle.reply.proofs.Packets.{valued, packet, packetLength, packetMac, packetAuth, signedPacket, length-packet, length-packetMac, length-packetAuth, packet-low, ends-in, no-value}
+use Rattle.frames.specs.Rooms.{withMac}
+use Rattle.frames.proofs.Writes.{write-last, write-middle}
+use Rattle.frames.proofs.Packets.{valued, packet, packetLength, packetMac, packetAuth, signedPacket, length-packet, length-packetMac, length-packetAuth, packet-low, ends-in, no-value}
 
 -- a packet at the start of a buffer is signed as by itself
 alike : (l m : List ℕ) (n : ℕ) → length m ≡ n → n ≤ length l → 4 ≤ n → Alike n (write l 0 m) m

@@ -1,9 +1,9 @@
--- `reply::seal::put_authenticator` meets its contract: the authenticator worked out is copied to its place.
+-- `frames::seal::put_authenticator` meets its contract: the authenticator worked out is copied to its place.
 -- Assumes nothing.
-use Rattle.reply.proofs.Rooms.{copied}
+use Rattle.frames.proofs.Rooms.{copied}
 use borrow.Author.Needs.{needs}
-use Rattle.reply.proofs.seal.put_authenticator.Statement.{statement}
-use Rattle.reply.proofs.seal.put_authenticator.Tie as tie
+use Rattle.frames.proofs.seal.put_authenticator.Statement.{statement}
+use Rattle.frames.proofs.seal.put_authenticator.Tie as tie
 
 returns : tie.Need-returns
 returns c = search (needs, copied)

@@ -9,7 +9,7 @@ use lib.ListN.{length}
 use Rattle.octets.specs.Runs.{write}
 use Rattle.signing.specs.Signing.{messageAuthenticator}
 use Rattle.signing.proofs.Messages.{length-zeros}
-use Rattle.reply.specs.Rooms.{macRoom, withMac}
+use Rattle.frames.specs.Rooms.{macRoom, withMac}
 
 -- type 80 is 18 bytes, so its value begins behind place 20
 pub room-low : (present : Bool) (n : ℕ) → present ≡ true → 20 + length (macRoom present) ≤ n → 20 ≤ n - 16
