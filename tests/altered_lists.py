@@ -15,20 +15,20 @@ class Altered(Seeded):
 
     def __init__(self, *seed):
         super().__init__("altered", *seed)
-        self.desk.table = self.desk.table[:192 * self.rng.choice([1, 5, 12, 64])]  # mostly short, for many commits
+        self.world.table = self.world.table[:192 * self.rng.choice([1, 5, 12, 64])]  # mostly short, for many commits
         self.posted = {}  # each job's packet as it was opened
         self.written = {}
 
     def job_to_alter(self):
         """Mostly the one whose steps are under way."""
-        return self.job if self.job in self.desk.in_use and self.rng.random() < 0.7 else self.rng.choice(self.desk.in_use)
+        return self.job if self.job in self.world.in_use and self.rng.random() < 0.7 else self.rng.choice(self.world.in_use)
 
     def alter_packet(self, write):
         k = self.job_to_alter()
-        p = part(self.desk.store, k)
+        p = part(self.world.store, k)
         if bad_form(p) == 0:
             p = p[:length_of(p)]
-            self.desk.write(k, write.written(p)[:PART])
+            self.world.write(k, write.written(p)[:PART])
             self.written[k] = write.name
 
     def alter_clause(self):
@@ -39,26 +39,26 @@ class Altered(Seeded):
 
     def put_back(self):
         k = self.job_to_alter()
-        self.desk.write(k, self.posted[k])
+        self.world.write(k, self.posted[k])
 
     def alter_bit(self):
         k = self.job_to_alter()
-        self.desk.write(k, flipped(part(self.desk.store, k), self.rng.randrange(8 * self.desk.jobs[k].length)))
+        self.world.write(k, flipped(part(self.world.store, k), self.rng.randrange(8 * self.world.jobs[k].length)))
 
     def alter_other_bytes(self):
         at, run = self.rng.randrange(STORE - 100), self.rng.randbytes(self.rng.randrange(100))
-        self.desk.store = self.desk.store[:at] + run + self.desk.store[at + len(run):]
+        self.world.store = self.world.store[:at] + run + self.world.store[at + len(run):]
 
     def alter_slot(self):
-        rng, table = self.rng, self.desk.table
+        rng, table = self.rng, self.world.table
         k = rng.randrange(table_model.slot_count(table))
         old = table_model.slot(table, rng.randrange(table_model.slot_count(table)))
         new = rng.choice([old, bytes(192), loose(rng, resident(rng)), free(rng), flipped(old, rng.randrange(192 * 8))])
-        self.desk.table = table_model.with_slot(table, k, new)
+        self.world.table = table_model.with_slot(table, k, new)
 
     def alter_size(self):
-        slots = max(1, min(64, table_model.slot_count(self.desk.table) + self.rng.choice([-30, -3, -1, 1, 2, 20])))
-        self.desk.table = (self.desk.table + self.rng.choice(HOUSES)[0] * 64)[:192 * slots]
+        slots = max(1, min(64, table_model.slot_count(self.world.table) + self.rng.choice([-30, -3, -1, 1, 2, 20])))
+        self.world.table = (self.world.table + self.rng.choice(HOUSES)[0] * 64)[:192 * slots]
 
     def alter(self):
         kinds = [self.alter_clause, self.alter_value, self.put_back, self.alter_bit, self.alter_other_bytes, self.alter_slot, self.alter_size]
@@ -66,20 +66,20 @@ class Altered(Seeded):
 
     def chance(self):
         """Of a write: high before the Check and the Commit of the job whose steps are under way, since these are rare."""
-        near = self.steps and self.job in self.desk.in_use and stage(self.desk.jobs[self.job], self.desk.table) in ("Check", "Commit")
+        near = self.steps and self.job in self.world.in_use and stage(self.world.jobs[self.job], self.world.table) in ("Check", "Commit")
         return 0.3 if near else 0.03
 
     def one(self):
         """One call, with something written before it now and then; a table of no table's length may be lent for it."""
-        desk, rng = self.desk, self.rng
-        if desk.in_use and len(desk.store) == STORE and table_model.slot_count(desk.table) and rng.random() < self.chance():
+        world, rng = self.world, self.rng
+        if world.in_use and len(world.store) == STORE and table_model.slot_count(world.table) and rng.random() < self.chance():
             self.alter()
-        table = (desk.table * 101)[:rng.choice(OTHER_LENGTHS)] if rng.random() < 0.003 else None
+        table = (world.table * 101)[:rng.choice(OTHER_LENGTHS)] if rng.random() < 0.003 else None
         asked = self.next_call()
-        told = desk.call(asked, table)
+        told = world.call(asked, table)
         if type(asked).__name__ == "Open" and told.answer == 0:
             self.posted[told.count] = asked.packet[:length_of(asked.packet)]
-        return desk.turns[-1]
+        return world.turns[-1]
 
 
 def stage(job, table):

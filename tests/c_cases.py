@@ -3,7 +3,7 @@ import re
 import shutil
 import subprocess
 
-import header_desk
+import header_scheduler
 import sample_requests
 from sample_requests import PLACE
 
@@ -50,13 +50,13 @@ def run_of(text, name):
     return bytes.fromhex(found(text, rf"^  {name:8}((?:[ \n]+[0-9a-f]{{2}})+)$") or "")
 
 
-def desk(probe, tally):
-    wanted = list(header_desk.lines())
+def world(probe, tally):
+    wanted = list(header_scheduler.lines())
     for language in LANGUAGES:
         if shutil.which(language[0]) is None:
             print(f"   not tried: {language[0]} is not installed")
             continue
-        printed = ran(language, ["tests/header_desk.c"]).splitlines()
+        printed = ran(language, ["tests/header_scheduler.c"]).splitlines()
         for got, line in zip(printed + [""] * len(wanted), wanted):
             tally.same(got, line, *language)
         tally.same(len(printed), len(wanted), "lines,", *language)
@@ -95,7 +95,7 @@ def archive(probe, tally):
 
 GROUPS = [
     ("C: NULL where a length is 0, in C and C++", nulls),
-    ("C: the scheduler's pointer forms, in C and C++", desk),
+    ("C: the scheduler's pointer forms, in C and C++", world),
     ("C: the sample gate", sample),
     ("C: the sample of requests in work at once", interleaved),
     ("C: the archive keeps nothing and allocates nothing", archive),

@@ -1,4 +1,4 @@
-"""The stepwise model beside the book: seeded lists, restarts, refusals, and the bounds of 132 and 912 steps."""
+"""The stepwise model beside the serial execution: seeded lists, restarts, refusals, and the bounds of 132 and 912 steps."""
 import hashlib
 from collections import Counter
 
@@ -6,9 +6,9 @@ import md5_block
 import scheduler_model
 import serial_model
 from calls import Drop, End, Open, Start, Step, Told, is_refused
-from desk import BUFFER, STALE, Desk
+from world import BUFFER, STALE, World
 from packets import CLOCK, COA, GATE, STAMP, TIMEOUT, USER, attribute, request
-from altered_desks import ANN, OTHER, SPARE, TABLE, at_check, at_slot, disturbed, people
+from altered_worlds import ANN, OTHER, SPARE, TABLE, at_check, at_slot, disturbed, people
 from scheduler_lists import Seeded
 from scheduler_model import CHECK, HASH, MATCH, After, Job
 from table_samples import full, seeded, session
@@ -27,20 +27,20 @@ RNG = seeded("scheduler cases")
 
 
 class Beside:
-    """The book beside a list: told only what document 01 lets it know."""
+    """The serial execution beside a list: told only what document 01 lets it know."""
 
-    def __init__(self, tally, desk):
-        self.tally, self.book = tally, serial_model.begun(desk.gate, desk.table)
+    def __init__(self, tally, world):
+        self.tally, self.serial = tally, serial_model.begun(world.gate, world.table)
 
     def same(self, turn, *case):
-        """One test: answer, table and reply buffer are the book's after this call."""
+        """One test: answer, table and reply buffer are the serial execution's after this call."""
         after = turn.after
         finished = isinstance(turn.asked, Step) and not is_refused(after.told) and after.told.answer != 600
-        self.book, told, reply = serial_model.call(self.book, turn.asked, len(turn.store), finished)
-        self.tally.same((after.told, after.table, after.reply), (told, self.book.table, reply), type(turn.asked).__name__, *case)
+        self.serial, told, reply = serial_model.call(self.serial, turn.asked, len(turn.store), finished)
+        self.tally.same((after.told, after.table, after.reply), (told, self.serial.table, reply), type(turn.asked).__name__, *case)
 
-    def same_jobs(self, desk, *case):
-        self.tally.same(desk.in_use, serial_model.noted(self.book), "open jobs", *case)
+    def same_jobs(self, world, *case):
+        self.tally.same(world.in_use, serial_model.noted(self.serial), "open jobs", *case)
 
 
 def restarts(before, turn):
@@ -50,14 +50,14 @@ def restarts(before, turn):
 
 
 def seen_in(list, beside, *case):
-    """What came up in a list that is run beside the book."""
-    seen, before = Counter(), list.desk.scheduler
+    """What came up in a list that is run beside the serial execution."""
+    seen, before = Counter(), list.world.scheduler
     for k, turn in enumerate(list.turns(LENGTH)):
         beside.same(turn, "call", k, *case)
         seen[type(turn.asked), turn.after.told.answer] += 1
         seen.update(restarts(before, turn))
         before = turn.after.scheduler
-    beside.same_jobs(list.desk, *case)
+    beside.same_jobs(list.world, *case)
     return seen
 
 
@@ -65,8 +65,8 @@ def lists(probe, tally):
     seen, slots = Counter(), set()
     for k in range(LISTS):
         list = Seeded(k)
-        slots.add(len(list.desk.table) // 192)
-        seen += seen_in(list, Beside(tally, list.desk), "of list", k)
+        slots.add(len(list.world.table) // 192)
+        seen += seen_in(list, Beside(tally, list.world), "of list", k)
     for kind, answers in ANSWERS.items():
         print(f"   {kind.__name__.lower():6}", ", ".join(f"{answer}: {seen[kind, answer]:,}" for answer in answers))
         for answer in answers:
@@ -88,20 +88,20 @@ def blocks(probe, tally):
 
 def sent_back(probe, tally):
     """Who sends job 1, which awaits Commit, back to slot 0, and who does not; jobs in Hash and Check keep their place."""
-    for name, desk, wanted in disturbed():
-        steps, told = desk.finish(1)
+    for name, world, wanted in disturbed():
+        steps, told = world.finish(1)
         tally.same((steps, told.count), wanted, "job 1 after", name)
     for name, call in [("a start", lambda d: d.start(session(RNG, id=b"new"))), ("an end", lambda d: d.end(4)), ("an ACK", lambda d: d.finish(0))]:
-        desk = at_check(COA)
-        desk.open(request(COA, [USER, TIMEOUT, STAMP, SPARE]), CLOCK)
-        desk.step(2)
-        call(desk)
-        tally.same([(job.kind, job.place) for job in desk.jobs[1:]], [(CHECK, 0), (HASH, 1), (0, 0)], "jobs in Check and Hash after", name)
+        world = at_check(COA)
+        world.open(request(COA, [USER, TIMEOUT, STAMP, SPARE]), CLOCK)
+        world.step(2)
+        call(world)
+        tally.same([(job.kind, job.place) for job in world.jobs[1:]], [(CHECK, 0), (HASH, 1), (0, 0)], "jobs in Check and Hash after", name)
 
 
 def refused():
-    """A desk that refused one call after the other, and what it must have answered."""
-    desk = at_slot(COA, 5)
+    """A scheduler that refused one call after the other, and what it must have answered."""
+    world = at_slot(COA, 5)
     short, bad, room = BUFFER[:4095], TABLE[:-1], STALE[:-1]
     fits = session(RNG, id=b"new")
     rows = [
@@ -112,20 +112,20 @@ def refused():
         (End(0), None, None, 11), (End(2**32 - 1), None, None, 11),
     ]
     for asked, table, store, _ in rows:
-        desk.call(asked, table, store)
-    return desk, [answer for *_, answer in rows]
+        world.call(asked, table, store)
+    return world, [answer for *_, answer in rows]
 
 
 def refusals(probe, tally):
     """The lowest number that applies; nothing is changed."""
-    desk, answers = refused()
-    for turn, answer in zip(desk.turns[-len(answers):], answers):
-        same = After(desk.scheduler, Told(answer), turn.table, turn.store, getattr(turn.asked, "reply", None))
+    world, answers = refused()
+    for turn, answer in zip(world.turns[-len(answers):], answers):
+        same = After(world.scheduler, Told(answer), turn.table, turn.store, getattr(turn.asked, "reply", None))
         tally.same(turn.after, same, type(turn.asked).__name__, answer)
-    desk.open(OTHER, CLOCK), desk.open(OTHER, CLOCK)
-    tally.same(desk.open(b"", 0), Told(6), "R6 before D1")
-    desk.drop(2)
-    tally.same((desk.open(b"", 0), desk.open(OTHER, CLOCK)), (Told(101), Told(0, 2)), "a discard takes no job, the next opening the lowest")
+    world.open(OTHER, CLOCK), world.open(OTHER, CLOCK)
+    tally.same(world.open(b"", 0), Told(6), "R6 before D1")
+    world.drop(2)
+    tally.same((world.open(b"", 0), world.open(OTHER, CLOCK)), (Told(101), Told(0, 2)), "a discard takes no job, the next opening the lowest")
     for secret, name, answer in MADE:
         tally.same(scheduler_model.make(secret, 7, name)[0], answer, "make with", len(secret), len(name))
 
@@ -133,12 +133,12 @@ def refusals(probe, tally):
 def freed(probe, tally):
     """A job that is free again holds nothing; opening writes only the copied bytes."""
     for name, end in [("an ACK", lambda d: d.finish(1)), ("a drop", lambda d: d.drop(1)), ("a discard", lambda d: (d.write(1, b"\0"), d.finish(1)))]:
-        desk = at_slot(COA, 5)
-        end(desk)
-        tally.same(desk.jobs[1], Job(), "after", name)
-    desk = Desk(TABLE)
-    desk.open(OTHER + b"padding", CLOCK), desk.open(OTHER, CLOCK)
-    tally.same(desk.store, OTHER + STALE[len(OTHER):4096] + OTHER + STALE[4096 + len(OTHER):], "the store after two openings")
+        world = at_slot(COA, 5)
+        end(world)
+        tally.same(world.jobs[1], Job(), "after", name)
+    world = World(TABLE)
+    world.open(OTHER + b"padding", CLOCK), world.open(OTHER, CLOCK)
+    tally.same(world.store, OTHER + STALE[len(OTHER):4096] + OTHER + STALE[4096 + len(OTHER):], "the store after two openings")
 
 
 LONG = request(COA, [USER, TIMEOUT, STAMP] + [attribute(33, bytes(253))] * 15 + [attribute(33, bytes(232))], GATE._replace(secret=bytes(64)))
@@ -146,48 +146,48 @@ CROWD = people("ab" * 32)
 
 
 def crowded(jobs):
-    desk = Desk(CROWD, GATE._replace(secret=bytes(64)))
+    world = World(CROWD, GATE._replace(secret=bytes(64)))
     for _ in range(jobs):
-        desk.open(LONG, CLOCK)
-    return desk
+        world.open(LONG, CLOCK)
+    return world
 
 
 def alone(probe, tally):
     """A lone job: 66 blocks, the check, 64 slots, the commit."""
     tally.same(len(LONG), 4096, "its Length")
-    desk = crowded(1)
-    steps, told = desk.finish(0)
+    world = crowded(1)
+    steps, told = world.finish(0)
     tally.same((steps, told.answer, told.count, told.size), (132, 0, 32, 4096 - 17), "a lone job")
-    kinds = [turn.after.scheduler.jobs[0].kind for turn in desk.turns[1:]]
+    kinds = [turn.after.scheduler.jobs[0].kind for turn in world.turns[1:]]
     tally.same([kinds.count(kind) for kind in (HASH, CHECK, MATCH, 0)], [65, 1, 65, 1], "steps that leave it in Hash, Check, Match, free")
 
 
 def longest():
     """Four jobs, all brought to Commit before each commit."""
-    desk = crowded(4)
-    while desk.in_use:
-        for job in desk.in_use:
-            while desk.jobs[job].kind != MATCH or desk.jobs[job].place < 64:
-                desk.step(job)
-        desk.step(desk.in_use[-1])
-    return desk
+    world = crowded(4)
+    while world.in_use:
+        for job in world.in_use:
+            while world.jobs[job].kind != MATCH or world.jobs[job].place < 64:
+                world.step(job)
+        world.step(world.in_use[-1])
+    return world
 
 
 def worst(probe, tally):
     """No list of steps is longer: 912."""
-    desk, beside = longest(), Beside(tally, crowded(0))
-    steps = [turn.after.told.answer for turn in desk.turns if isinstance(turn.asked, Step)]
+    world, beside = longest(), Beside(tally, crowded(0))
+    steps = [turn.after.told.answer for turn in world.turns if isinstance(turn.asked, Step)]
     tally.same((len(steps), steps.count(0), steps.count(600)), (912, 4, 908), "steps of four jobs, and how they were answered")
-    for turn in desk.turns:
+    for turn in world.turns:
         beside.same(turn, "of the longest list")
 
 
 GROUPS = [
-    ("desk model: MD5 by blocks", blocks),
-    ("desk model: seeded lists beside the book", lists),
-    ("desk model: who is sent back to slot 0", sent_back),
-    ("desk model: refusals", refusals),
-    ("desk model: freed jobs and copied bytes", freed),
-    ("desk model: a lone job's 132 steps", alone),
-    ("desk model: 912 steps at worst", worst),
+    ("scheduler model: MD5 by blocks", blocks),
+    ("scheduler model: seeded lists beside the serial execution", lists),
+    ("scheduler model: who is sent back to slot 0", sent_back),
+    ("scheduler model: refusals", refusals),
+    ("scheduler model: freed jobs and copied bytes", freed),
+    ("scheduler model: a lone job's 132 steps", alone),
+    ("scheduler model: 912 steps at worst", worst),
 ]

@@ -1,7 +1,7 @@
-"""Seeded lists of calls on a desk: opens of packets of every outcome, steps in any order, drops, starts, ends, and refused calls."""
+"""Seeded lists of calls on a scheduler: opens of packets of every outcome, steps in any order, drops, starts, ends, and refused calls."""
 import table_model
 from calls import STORE, Drop, End, Open, Start, Step
-from desk import Desk
+from world import World
 from drafts import HOUSES, LAST, Draft, resident
 from faults import FAULTS
 from packet_model import Gate
@@ -27,15 +27,15 @@ def sessions(table):
 
 
 class Posted(Draft):
-    """A packet to be opened on a desk, for a session that is there now."""
+    """A packet to be opened on a scheduler, for a session that is there now."""
 
-    def __init__(self, rng, desk, clock):
-        self.desk, self.clock = desk, clock
+    def __init__(self, rng, world, clock):
+        self.world, self.clock = world, clock
         super().__init__(rng)
 
     def surroundings(self):
-        self.secret, self.address, self.name = self.desk.gate
-        return self.rng.choice(sessions(self.desk.table) or [resident(self.rng)])
+        self.secret, self.address, self.name = self.world.gate
+        return self.rng.choice(sessions(self.world.table) or [resident(self.rng)])
 
 
 def lengthen(d):
@@ -46,8 +46,8 @@ def lengthen(d):
         d.parts.append(attribute(33, d.rng.randbytes(room % 255 - 2)))
 
 
-def posted(rng, desk, clock):
-    draft = Posted(rng, desk, clock)
+def posted(rng, world, clock):
+    draft = Posted(rng, world, clock)
     for put in rng.sample(PACKET_FAULTS, rng.choice([0, 0, 0, 0, 1, 1, 1, 2])):
         put(draft)
     if rng.random() < 0.02:
@@ -71,13 +71,13 @@ class Seeded:
 
     def __init__(self, *seed):
         self.rng = rng = seeded("a list of calls", *seed)
-        self.desk = Desk(any_table(rng), any_gate(rng), rng.randbytes(rng.choice(OTHER_STORES) if rng.random() < 0.02 else STORE))
+        self.world = World(any_table(rng), any_gate(rng), rng.randbytes(rng.choice(OTHER_STORES) if rng.random() < 0.02 else STORE))
         self.clock = rng.choice([0, 300, CLOCK, LAST - 300, rng.randrange(2**32)])
         self.job, self.steps = 0, 0  # steps that are still to be taken in one go
 
     def any_open(self):
         self.clock = min(LAST, self.clock + self.rng.choice([0, 0, 1, 300]))
-        return Open(posted(self.rng, self.desk, self.clock), self.clock)
+        return Open(posted(self.rng, self.world, self.clock), self.clock)
 
     def any_session(self):
         rng = self.rng
@@ -91,17 +91,17 @@ class Seeded:
 
     def any_end(self):
         rng = self.rng
-        slots = table_model.slot_count(self.desk.table)
+        slots = table_model.slot_count(self.world.table)
         return End(rng.choice([slots, LAST, *SLOTS]) if rng.random() < 0.1 or slots == 0 else rng.randrange(slots))
 
     def any_job(self):
         """One in use; a free one or a number of no job now and then."""
         rng = self.rng
-        return rng.choice(self.desk.in_use or range(4)) if rng.random() < 0.97 else rng.choice([0, 1, 2, 3, 4, 5, 255, 256, LAST])
+        return rng.choice(self.world.in_use or range(4)) if rng.random() < 0.97 else rng.choice([0, 1, 2, 3, 4, 5, 255, 256, LAST])
 
     def next_step(self):
-        if self.steps == 0 or self.job not in self.desk.in_use:
-            self.job, self.steps = self.any_job(), self.rng.choice([1, 1, 1, 2, 5, 20, 70, 140] if table_model.slot_count(self.desk.table) else [1])
+        if self.steps == 0 or self.job not in self.world.in_use:
+            self.job, self.steps = self.any_job(), self.rng.choice([1, 1, 1, 2, 5, 20, 70, 140] if table_model.slot_count(self.world.table) else [1])
         self.steps -= 1
         return Step(self.job, self.rng.choice(SHORT if self.rng.random() < 0.003 else BUFFERS))
 
@@ -109,7 +109,7 @@ class Seeded:
         rng = self.rng
         if self.steps and rng.random() < 0.98:
             return self.next_step()
-        missing = 4 - len(self.desk.in_use)
+        missing = 4 - len(self.world.in_use)
         kind = rng.choices(["open", "step", "drop", "start", "end"], [2 + 6 * missing, 25 if missing < 4 else 2, 1, 3, 3])[0]
         if kind == "open":
             return self.any_open()
@@ -120,13 +120,13 @@ class Seeded:
     def one(self):
         """One call, made; a store of another length is lent now and then."""
         store = self.rng.randbytes(self.rng.choice(OTHER_STORES)) if self.rng.random() < 0.003 else None
-        self.desk.call(self.next_call(), store=store)
-        return self.desk.turns[-1]
+        self.world.call(self.next_call(), store=store)
+        return self.world.turns[-1]
 
     def turns(self, length):
         """So many calls, and then steps in any order until every job is finished, where the table and the store let them."""
         for _ in range(length):
             yield self.one()
-        while self.desk.in_use and table_model.slot_count(self.desk.table) and len(self.desk.store) == STORE:
-            self.desk.call(Step(self.rng.choice(self.desk.in_use), self.rng.choice(BUFFERS)))
-            yield self.desk.turns[-1]
+        while self.world.in_use and table_model.slot_count(self.world.table) and len(self.world.store) == STORE:
+            self.world.call(Step(self.rng.choice(self.world.in_use), self.rng.choice(BUFFERS)))
+            yield self.world.turns[-1]

@@ -44,7 +44,7 @@ class Moved(NamedTuple):
 
 
 def make(secret, address, name):
-    """R2, R3 or 0; the desk, None where it is refused."""
+    """R2, R3 or 0; the scheduler, None where it is refused."""
     if not 1 <= len(secret) <= 64:
         return 2, None
     if not 1 <= len(name) <= 32:

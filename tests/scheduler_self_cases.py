@@ -1,14 +1,14 @@
-"""The tests of the desk themselves: a desk that does one thing wrong is found out by what it tells and writes, without a look inside."""
+"""The tests of the scheduler themselves: a scheduler that does one thing wrong is found out by what it tells and writes, without a look inside."""
 from collections import Counter
 from unittest import mock
 
 import scheduler_model
-from altered_desks import directed
+from altered_worlds import directed
 from altered_lists import Altered, stage
 from calls import Step
 from scheduler_lists import Seeded
 from scheduler_model import Job
-from wrong_desks import WRONG
+from wrong_schedulers import WRONG
 
 LISTS, LENGTH = 40, 250
 OFTEN = 5
@@ -27,15 +27,15 @@ def is_found_out(recorded):
 
 
 def recorded(list):
-    return list.desk.gate, [turn for turn in list.turns(LENGTH)]
+    return list.world.gate, [turn for turn in list.turns(LENGTH)]
 
 
-def wrong_desks(probe, tally):
-    lists = [(desk.gate, desk.turns) for desk in directed()] + [recorded(kind(k)) for k in range(LISTS // 4) for kind in (Seeded, Altered)]
-    tally.same(is_found_out(lists), False, "the right desk is found out")
+def wrong_schedulers(probe, tally):
+    lists = [(world.gate, world.turns) for world in directed()] + [recorded(kind(k)) for k in range(LISTS // 4) for kind in (Seeded, Altered)]
+    tally.same(is_found_out(lists), False, "the right scheduler is found out")
     for name, wrong in WRONG.items():
         with mock.patch.multiple(scheduler_model, **wrong):
-            tally.same(is_found_out(lists), True, "a desk that", name)
+            tally.same(is_found_out(lists), True, "a scheduler that", name)
 
 
 def altered(probe, tally):
@@ -56,6 +56,6 @@ def altered(probe, tally):
 
 
 GROUPS = [
-    ("the tests: a wrong desk is found out", wrong_desks),
-    ("the tests: each move of a desk meets outside writes", altered),
+    ("the tests: a wrong scheduler is found out", wrong_schedulers),
+    ("the tests: each move of a scheduler meets outside writes", altered),
 ]

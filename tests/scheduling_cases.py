@@ -2,7 +2,7 @@
 import ctypes
 
 import scheduler_model
-from altered_desks import directed
+from altered_worlds import directed
 from altered_lists import Altered
 from calls import STORE
 from packets import CLOCK
@@ -28,19 +28,19 @@ def made(probe, tally):
 
 def hand_made(probe, tally):
     library = Library(probe)
-    for k, desk in enumerate(directed()):
-        replayed(library, tally, desk.gate, desk.turns, "of desk", k)
-    desk, _ = refused()
-    replayed(library, tally, desk.gate, desk.turns, "among the refused")
+    for k, world in enumerate(directed()):
+        replayed(library, tally, world.gate, world.turns, "of scheduler", k)
+    world, _ = refused()
+    replayed(library, tally, world.gate, world.turns, "among the refused")
 
 
 def bounds(probe, tally):
     """A lone job's 132 steps, and 912 at worst."""
-    library, desk = Library(probe), crowded(1)
-    tally.same(desk.finish(0)[0], 132, "a lone job")
-    replayed(library, tally, desk.gate, desk.turns, "of a lone job")
-    desk = longest()
-    replayed(library, tally, desk.gate, desk.turns, "of the longest list")
+    library, world = Library(probe), crowded(1)
+    tally.same(world.finish(0)[0], 132, "a lone job")
+    replayed(library, tally, world.gate, world.turns, "of a lone job")
+    world = longest()
+    replayed(library, tally, world.gate, world.turns, "of the longest list")
 
 
 def lists(kind):
@@ -50,20 +50,20 @@ def lists(kind):
             list = kind("C", k)
             for _ in list.turns(LENGTH):
                 pass
-            replayed(library, tally, list.desk.gate, list.desk.turns, "of list", k)
+            replayed(library, tally, list.world.gate, list.world.turns, "of list", k)
     return seeded_lists
 
 
 def nulls(probe, tally):
     """A run of no bytes may be NULL."""
-    library, (_, desk) = Library(probe), scheduler_model.make(b"s", 7, b"n")
+    library, (_, world) = Library(probe), scheduler_model.make(b"s", 7, b"n")
     store, table, reply = bytes(STORE), bytes(192), bytes(4096)
     for name, given, answer in [
         ("open", (NULL, 0, store), 101), ("open", (OTHER, CLOCK, NULL), 5), ("step", (0, NULL, reply, store), 1), ("step", (0, table, NULL, store), 4),
         ("step", (0, table, reply, NULL), 5), ("start", (NULL, 1, 2, 3, 4, b"u", b"i", b"", b""), 1), ("start", (table, 1, 2, 3, 4, NULL, b"i", b"", b""), 8),
         ("start", (table, 1, 2, 3, 4, b"u", NULL, b"", b""), 8), ("start", (table, 1, 2, 3, 4, b"u", b"i", NULL, NULL), 0), ("end", (NULL, 0), 1),
     ]:
-        called, _ = library(name, in_c(desk), *given)
+        called, _ = library(name, in_c(world), *given)
         tally.same(numbers(called.report), (answer, 0, 0, 0, 0), name, answer)
 
 

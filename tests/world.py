@@ -18,7 +18,7 @@ class Turn(NamedTuple):
     after: After
 
 
-class Desk:
+class World:
     """table and store are the caller's: to write to them between calls is an outside write."""
 
     def __init__(self, table, gate=GATE, store=STALE):
@@ -27,7 +27,7 @@ class Desk:
 
     def copy(self):
         """Another that had the same calls."""
-        other = Desk(self.table, self.gate, self.store)
+        other = World(self.table, self.gate, self.store)
         other.scheduler, other.turns = self.scheduler, self.turns[:]
         return other
 

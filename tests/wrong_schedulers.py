@@ -1,4 +1,4 @@
-"""Desks that do one thing wrong, each by what is put in the place of the model's own functions."""
+"""Schedulers that do one thing wrong, each by what is put in the place of the model's own functions."""
 from unittest import mock
 
 import handle_model
@@ -38,7 +38,7 @@ def matches_at_commit(job, p, gate, table, reply):
 
 
 def reads_again_not_in(name):
-    """A desk that skips the re-reading there; what cannot be worked on then is not claimed."""
+    """A scheduler that skips the re-reading there; what cannot be worked on then is not claimed."""
     def moved(job, p, gate, table, reply):
         if stage(job, table) != name:
             return OURS["moved"](job, p, gate, table, reply)
@@ -122,7 +122,7 @@ def restarts_also(when):
 
 
 def takes_the_highest(scheduler, table, store, asked):
-    """Works on the desk and the store with their jobs turned about."""
+    """Works on the scheduler and the store with their jobs turned about."""
     def about(scheduler, store):
         return scheduler._replace(jobs=scheduler.jobs[::-1]), b"".join(OURS["part"](store, k) for k in (3, 2, 1, 0))
     turned, parts = about(scheduler, store)

@@ -1,8 +1,8 @@
-"""Desks whose store or table is written to between calls, made by hand, with what document 01 says of each."""
+"""Schedulers whose store or table is written to between calls, made by hand, with what document 01 says of each."""
 import scheduler_model
 import table_model
 from alterations import CLAUSES, FOLLOWED
-from desk import Desk
+from world import World
 from packets import CLOCK, COA, CODES, DISCONNECT, MAC, STAMP, TIMEOUT, USER, attribute, request, stamp
 from scheduler_model import CHECK
 from table_model import number
@@ -27,21 +27,21 @@ def parts(code, signed):
 
 
 def at_check(code, signed=False, table=TABLE):
-    """A desk whose job 1 awaits its Check; job 0 is another, before its second slot."""
-    desk = Desk(table)
-    desk.open(OTHER, CLOCK)
-    while not desk.jobs[0].place or desk.jobs[0].kind != scheduler_model.MATCH:
-        desk.step(0)
-    desk.open(request(code, parts(code, signed)), CLOCK)
-    while desk.jobs[1].kind != CHECK:
-        desk.step(1)
-    return desk
+    """A scheduler whose job 1 awaits its Check; job 0 is another, before its second slot."""
+    world = World(table)
+    world.open(OTHER, CLOCK)
+    while not world.jobs[0].place or world.jobs[0].kind != scheduler_model.MATCH:
+        world.step(0)
+    world.open(request(code, parts(code, signed)), CLOCK)
+    while world.jobs[1].kind != CHECK:
+        world.step(1)
+    return world
 
 
 def at_slot(code, place, signed=False, table=TABLE):
-    desk = at_check(code, signed, table)
-    desk.step(1, 1 + place)
-    return desk
+    world = at_check(code, signed, table)
+    world.step(1, 1 + place)
+    return world
 
 
 def stages(code, signed):
@@ -50,23 +50,23 @@ def stages(code, signed):
         yield name, at_slot(code, place, signed)
 
 
-def packet(desk):
-    return desk.store[4096:4096 + desk.jobs[1].length]
+def packet(world):
+    return world.store[4096:4096 + world.jobs[1].length]
 
 
 def written(writes):
-    """For each kind of request, next step and write a desk where that was written, and what is told of it."""
+    """For each kind of request, next step and write a scheduler where that was written, and what is told of it."""
     for code, signed in [(code, signed) for code in CODES for signed in (False, True)]:
         for stage, made in stages(code, signed):
             for write in writes:
-                desk = made.copy()
-                desk.write(1, write.written(packet(desk)))
-                if code in write.codes and packet(desk) != packet(made):
-                    yield desk, write, stage, signed, (write.name, "before", stage, "of", code, "with type 80" if signed else "")
+                world = made.copy()
+                world.write(1, write.written(packet(world)))
+                if code in write.codes and packet(world) != packet(made):
+                    yield world, write, stage, signed, (write.name, "before", stage, "of", code, "with type 80" if signed else "")
 
 
 def valued():
-    """Values that are followed: a name, a desk where one was written, the slots' timeout, and answer, count and skew."""
+    """Values that are followed: a name, a scheduler where one was written, the slots' timeout, and answer, count and skew."""
     stamped = [STAMP, stamp(CLOCK + 10000)]
     user, timeout = [USER, attribute(1, b"ano")], [TIMEOUT, attribute(27, number(65748))]
     for name, (old, new), place, wanted in [
@@ -75,13 +75,13 @@ def valued():
         ("a late stamp before slot 0", stamped, 0, (0, 2, 10000)), ("a late stamp before Commit", stamped, 5, (0, 2, 10000)),
         ("a timeout before Commit", timeout, 5, (0, 2, 0)),
     ]:
-        desk = at_slot(COA, place)
-        desk.write(1, packet(desk).replace(old, new))
-        yield name, desk, (new if old == TIMEOUT else TIMEOUT)[2:], wanted
+        world = at_slot(COA, place)
+        world.write(1, packet(world).replace(old, new))
+        yield name, world, (new if old == TIMEOUT else TIMEOUT)[2:], wanted
 
 
 def half_hashed():
-    """A name, a desk whose job 0 awaits its Check after a byte was altered among its blocks, and what it answers."""
+    """A name, a scheduler whose job 0 awaits its Check after a byte was altered among its blocks, and what it answers."""
     p = request(COA, parts(COA, False))
     place = p.index(b"state")
     changed, shorter = p[:place] + b"X" + p[place + 1:], p[:2] + b"\0\x14" + p[4:]
@@ -90,18 +90,18 @@ def half_hashed():
         ("before the Check", [None, None, None, changed], 600), ("before its block, and put back behind it", [changed, p, None, None], 104),
         ("behind its block, and put back", [None, changed, p, None], 600), ("of Length, and put back", [shorter, None, None, p], 104),
     ]:
-        desk = Desk(TABLE)
-        desk.open(p, CLOCK)
+        world = World(TABLE)
+        world.open(p, CLOCK)
         for k, run in enumerate(written):
             if run:
-                desk.write(0, run)
+                world.write(0, run)
             if k < 3:
-                desk.step(0)
-        yield name, desk, answer
+                world.step(0)
+        yield name, world, answer
 
 
 def other_tables():
-    """Job 1 stands before slot `place` of TABLE, which has Ann in slots 1 and 4: a name, the desk; steps to the end, answer, count."""
+    """Job 1 stands before slot `place` of TABLE, which has Ann in slots 1 and 4: a name, the scheduler; steps to the end, answer, count."""
     def put(k, slot):
         return lambda table: table_model.with_slot(table, k, slot)
     ann, ben, none = loose(RNG, ANN), loose(RNG, BEN), bytes(192)
@@ -114,13 +114,13 @@ def other_tables():
         ("another in a marked slot", 5, put(1, ben), (1, 0, 2)), ("one more, behind the place", 5, put(0, ann), (1, 0, 2)),
         ("one more, before the place", 3, put(3, ann), (3, 0, 3)), ("one less, before the place", 3, put(4, ben), (3, 0, 1)),
     ]:
-        desk = at_slot(COA, place)
-        desk.table = written(desk.table)
-        yield name, desk, wanted
+        world = at_slot(COA, place)
+        world.table = written(world.table)
+        yield name, world, wanted
 
 
 def disturbed():
-    """Job 1 awaits Commit, and something is called: its name, the desk, and steps to the end and sessions changed."""
+    """Job 1 awaits Commit, and something is called: its name, the scheduler, and steps to the end and sessions changed."""
     nobody = request(DISCONNECT, [attribute(1, b"nobody"), STAMP])
     for name, call, wanted in [
         ("nothing", lambda d: None, (1, 2)), ("an ACK", lambda d: d.finish(0), (6, 2)), ("a step", lambda d: d.step(0), (1, 2)),
@@ -130,16 +130,16 @@ def disturbed():
         ("a discard", lambda d: (d.write(0, b"\0"), d.step(0)), (1, 2)), ("a refused start", lambda d: d.start(ANN), (1, 2)),
         ("a refused end", lambda d: d.end(0), (1, 2)), ("a refused step", lambda d: d.step(3), (1, 2)), ("a refused drop", lambda d: d.drop(3), (1, 2)),
     ]:
-        desk = at_slot(COA, 5)
-        call(desk)
-        yield name, desk, wanted
+        world = at_slot(COA, 5)
+        call(world)
+        yield name, world, wanted
 
 
 def directed():
-    """The desks of all these cases, each job run to its end."""
+    """The schedulers of all these cases, each job run to its end."""
     made = [row[0] for row in written(CLAUSES + FOLLOWED)]
     made += [row[1] for rows in (valued(), half_hashed(), other_tables(), disturbed()) for row in rows]
-    for desk in made:
-        for job in desk.in_use[::-1]:
-            desk.finish(job)
-        yield desk
+    for world in made:
+        for job in world.in_use[::-1]:
+            world.finish(job)
+        yield world
