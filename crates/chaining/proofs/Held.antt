@@ -8,7 +8,7 @@ use Rattle.octets.specs.Runs.{part, equalBytes}
 use Rattle.md5.specs.declared.State.{State}
 use Rattle.md5.specs.Md5.{output}
 use Rattle.md5.proofs.After.{length-output}
-use Rattle.signing.specs.Block.{hashed}
+use Rattle.blockwise.specs.Block.{hashed}
 use Rattle.signing.proofs.Pieces.{compared}
 use Rattle.rules.specs.Packet.{authOf}
 use Rattle.chaining.specs.Words.{wordsOf, hashState}

@@ -4,7 +4,7 @@ ghost use Prim.Native.Nat.{_+_, _≤_, _<_};
 ghost use lib.ListN.{length};
 ghost use Rattle.octets.specs.Runs.{equalBytes};
 ghost use Rattle.md5.specs.Md5.{output};
-ghost use Rattle.signing.specs.Block.{blockCount, hashed};
+ghost use Rattle.blockwise.specs.Block.{blockCount, hashed};
 ghost use Rattle.rules.specs.Packet.{authOf};
 ghost use Rattle.chaining.specs.Words.{wordsOf, hashState};
 
@@ -31,7 +31,7 @@ pub fn after_block(words: [u32; 4], q: &[u8], n: usize, secret: &[u8], k: usize)
     ensures { λ r. ⌜ r ≡ wordsOf (hashed (hashState words) k (now (q .entry)) n (now (secret .entry))) ⌝ }
 {
     let before = state_of(words);
-    let after = signing::hash_block(before, q, n, secret, k);
+    let after = blockwise::hash_block(before, q, n, secret, k);
     words_of(after)
 }
 

@@ -11,7 +11,7 @@ use lib.IntN.{negsuc, subℕ}
 use lib.ListN.{length}
 use Rattle.octets.specs.Numbers.{be}
 use Rattle.attributes.specs.Attributes.{stepAt, walkFrom}
-use Rattle.signing.specs.Block.{blockCount}
+use Rattle.blockwise.specs.Block.{blockCount}
 use Rattle.slots.specs.Slot.{live, within}
 use Rattle.stamps.specs.Stamp.{stale, skewOf}
 use Rattle.rules.specs.Packet.{lengthOf}

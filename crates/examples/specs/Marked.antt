@@ -9,7 +9,7 @@ use lib.ListN.{length, getD}
 use Rattle.octets.specs.Numbers.{be}
 use Rattle.octets.specs.Runs.{write}
 use Rattle.attributes.specs.Attributes.{attributes, tiled, any, countOf, kindIs}
-use Rattle.signing.specs.Block.{blockCount}
+use Rattle.blockwise.specs.Block.{blockCount}
 use Rattle.slots.specs.Slot.{live}
 use Rattle.stamps.specs.declared.Stamp.the-variants.{Usable}
 use Rattle.stamps.specs.Stamp.{stampOf, stale, skewOf}

@@ -6,7 +6,7 @@ use Prim.Native.Nat.{ℕ, _+_, _≤_, _<_}
 use native.Mathlib.Omega.{arith}
 use borrow.Author.Tests.{lt-ltb, le-ltb}
 use lib.ListN.{length}
-use Rattle.signing.specs.Block.{blockCount, hashed}
+use Rattle.blockwise.specs.Block.{blockCount, hashed}
 use Rattle.jobs.specs.declared.Job.{Job}
 use Rattle.jobs.specs.declared.Stage.the-variants.{Hash, Check}
 use Rattle.chaining.specs.Words.{wordsOf, hashState}

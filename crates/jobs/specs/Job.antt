@@ -4,7 +4,7 @@ use mathlib.Core.Bool.{Bool, true, false}
 use Prim.Native.Nat.{ℕ, _+_, _≤_, _<_}
 use lib.ListN.{replicate}
 use Rattle.md5.specs.Md5.{initial}
-use Rattle.signing.specs.Block.{blockCount}
+use Rattle.blockwise.specs.Block.{blockCount}
 use Rattle.slots.specs.Marks.{noMarks}
 use Rattle.chaining.specs.Words.{wordsOf}
 use Rattle.jobs.specs.declared.Job as D

@@ -8,7 +8,7 @@ use lib.IntN.{ℤ, pos}
 use lib.ListN.{length, set}
 use Rattle.octets.specs.Runs.{equalBytes}
 use Rattle.md5.specs.Md5.{output}
-use Rattle.signing.specs.Block.{blockCount, hashed}
+use Rattle.blockwise.specs.Block.{blockCount, hashed}
 use Rattle.slots.specs.Slot.{slotCount}
 use Rattle.slots.specs.Marks.{noMarks}
 use Rattle.stamps.specs.declared.Stamp as T

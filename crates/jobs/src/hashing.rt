@@ -2,7 +2,7 @@
 ghost use mathlib.Core.Path.{_≡_};
 ghost use Prim.Native.Nat.{_+_, _≤_, _<_};
 ghost use lib.ListN.{length};
-ghost use Rattle.signing.specs.Block.{blockCount};
+ghost use Rattle.blockwise.specs.Block.{blockCount};
 ghost use Rattle.jobs.specs.Moves.{hashJob};
 use crate::Job;
 use crate::Stage;
@@ -18,7 +18,7 @@ impl Job {
         let n = self.length;
         let next = k + 1;
         let words = chaining::after_block(held, q, n, secret, k);
-        if next < signing::block_count(n + secret.len()) {
+        if next < blockwise::block_count(n + secret.len()) {
             return Job {
                 stage: Stage::Hash(next),
                 words,

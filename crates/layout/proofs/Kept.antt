@@ -9,7 +9,7 @@ use lib.ListN.{length, length-map}
 use native.Mathlib.Omega.{arith}
 use borrow.Author.Tests.{ltb-true, ltb-false, leb-true}
 use Rattle.octets.proofs.Equality.{and-both}
-use Rattle.signing.specs.Block.{blockCount}
+use Rattle.blockwise.specs.Block.{blockCount}
 use Rattle.jobs.specs.declared.Stage.the-variants.{Free, Hash, Check, Match}
 use Rattle.jobs.specs.Job.{Placed, JobOurs}
 use Rattle.scheduler.specs.Scheduler.{Ours, jobAt}

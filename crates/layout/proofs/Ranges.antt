@@ -5,7 +5,7 @@ use mathlib.Core.Path.{_≡_, _∙_, sym}
 use Prim.Native.Nat.{ℕ, _+_, _≤_, _<_}
 use lib.Dec.{ltb}
 use borrow.Author.Tests.{lt-ltb, le-ltb, le-leb, lt-leb, eq-eqb, ne-eqb}
-use Rattle.signing.specs.Block.{blockCount}
+use Rattle.blockwise.specs.Block.{blockCount}
 use Rattle.jobs.specs.declared.Stage.the-variants.{Free, Hash, Check, Match}
 use Rattle.layout.specs.Layout.{between, blockIn, stageIn}
 

@@ -27,7 +27,7 @@ fn block_in(size: usize, n: usize, place: usize) -> bool
     if 4096 < n {
         return false;
     }
-    place < signing::block_count(n + size)
+    place < blockwise::block_count(n + size)
 }
 
 // The stage of a kind and a place.

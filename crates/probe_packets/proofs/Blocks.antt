@@ -9,8 +9,8 @@ use lib.ListN.{length}
 use Rattle.md5.specs.declared.State.{State}
 use Rattle.md5.specs.Md5.{initial, output}
 use Rattle.signing.specs.Signing.{zeros, authenticator}
-use Rattle.signing.specs.Block.{blockCount, hashed, hashedTo}
-use Rattle.signing.proofs.Stepwise.{blocks-none, blocks-more, blocks-all}
+use Rattle.blockwise.specs.Block.{blockCount, hashed, hashedTo}
+use Rattle.blockwise.proofs.Stepwise.{blocks-none, blocks-more, blocks-all}
 
 module _ (p : List ℕ) (n : ℕ) (secret : List ℕ) where
   pub words-none : (q : State) → q ≡ initial → q ≡ hashedTo 0 p n secret

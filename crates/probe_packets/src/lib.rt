@@ -78,11 +78,11 @@ fn by_blocks(p: &[u8], n: usize, secret: &[u8]) -> [u8; 16]
     requires { ⌜ (20 ≤ n) × (n ≤ length (now p)) × (n ≤ 4096) × (length (now secret) ≤ 64) ⌝ }
     ensures { λ r. ⌜ r ≡ authenticator zeros (now (p .entry)) n (now (secret .entry)) ⌝ }
 {
-    let e = signing::block_count(n + secret.len());
+    let e = blockwise::block_count(n + secret.len());
     let mut q = md5::initial();
     let mut k = 0;
     while k < e {
-        q = signing::hash_block(q, p, n, secret, k);
+        q = blockwise::hash_block(q, p, n, secret, k);
         k += 1;
     }
     digest::bytes_of(q)

@@ -5,7 +5,7 @@ use mathlib.Core.List.{List, [], _∷_, map}
 use Prim.Native.Nat.{ℕ, zero, suc, _≤_}
 use native.Mathlib.Omega.{arith}
 use lib.ListN.{getD, set, length-set, length-map, List·getD-map}
-use Rattle.signing.specs.Block.{blockCount}
+use Rattle.blockwise.specs.Block.{blockCount}
 use Rattle.jobs.specs.declared.Job.{Job}
 use Rattle.jobs.specs.declared.Stage.{Stage}
 use Rattle.jobs.specs.declared.Stage.the-variants.{Free, Hash, Check, Match}

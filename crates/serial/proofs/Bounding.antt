@@ -9,7 +9,7 @@ use native.Mathlib.Omega.{arith}
 use borrow.Author.Tests.{ltb-true}
 use lib.Dec.{ltb}
 use lib.ListN.{length, set}
-use Rattle.signing.specs.Block.{blockCount}
+use Rattle.blockwise.specs.Block.{blockCount}
 use Rattle.slots.specs.Slot.{slotCount}
 use Rattle.slots.proofs.Count.{counted}
 use Rattle.rules.specs.declared.Verdict as R

@@ -12,8 +12,8 @@ use lib.Dec.{ltb}
 use Rattle.octets.specs.Runs.{equalBytes}
 use Rattle.md5.specs.Md5.{output}
 use Rattle.signing.specs.Signing.{zeros, authenticator}
-use Rattle.signing.specs.Block.{hashed, hashedTo}
-use Rattle.signing.proofs.Stepwise.{blocks-more, blocks-all, same-hashed}
+use Rattle.blockwise.specs.Block.{hashed, hashedTo}
+use Rattle.blockwise.proofs.Stepwise.{blocks-more, blocks-all, same-hashed}
 use Rattle.slots.specs.Marks.{marksAfter}
 use Rattle.rules.specs.declared.Verdict as R
 use Rattle.rules.specs.declared.Verdict.the-variants as J

@@ -5,7 +5,7 @@ use mathlib.Core.Bool.{false, true≢false}
 use mathlib.Core.List.{List}
 use Prim.Native.Nat.{ℕ, _+_, _≤_, _<_}
 use lib.ListN.{length}
-use Rattle.signing.specs.Block.{blockCount, hashedTo}
+use Rattle.blockwise.specs.Block.{blockCount, hashedTo}
 use Rattle.slots.specs.Slot.{slotCount}
 use Rattle.slots.specs.Marks.{marksAfter}
 use Rattle.rules.specs.declared.Verdict.{Verdict}

@@ -11,8 +11,8 @@ use lib.Dec.{eqb}
 use lib.ListN.{length, take, set, length-set}
 use Rattle.octets.specs.Runs.{write}
 use Rattle.octets.proofs.Write.{length-write}
-use Rattle.signing.specs.Block.{blockCount}
-use Rattle.signing.proofs.Stepwise.{blocks-none}
+use Rattle.blockwise.specs.Block.{blockCount}
+use Rattle.blockwise.proofs.Stepwise.{blocks-none}
 use Rattle.rules.specs.Packet.{lengthOf}
 use Rattle.rules.specs.Discards.{formOf}
 use Rattle.jobs.specs.Job.{firstJob}

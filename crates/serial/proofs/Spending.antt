@@ -9,8 +9,8 @@ use borrow.Author.Tests.{eqb-true}
 use lib.Dec.{eqb}
 use lib.ListN.{length, getD}
 use Rattle.octets.proofs.Equality.{and-both}
-use Rattle.signing.specs.Block.{blockCount}
-use Rattle.signing.proofs.Stepwise.{blocks-most}
+use Rattle.blockwise.specs.Block.{blockCount}
+use Rattle.blockwise.proofs.Stepwise.{blocks-most}
 use Rattle.sessions.specs.declared.Inserted as I
 use Rattle.sessions.specs.declared.Inserted.the-variants.{Slot, NotInserted}
 use Rattle.sessions.specs.declared.Removed as X

@@ -1,14 +1,10 @@
 // The signatures of a packet where it lies: p is the packet, n its Length, bytes behind Length are not looked at.
-mod blocks; // blocks.rt: a block of the signed request, put together
-
 ghost use mathlib.Core.Path.{_≡_};
 ghost use mathlib.Core.List.{_++_};
-ghost use Prim.Native.Nat.{_+_, _≤_, _<_};
+ghost use Prim.Native.Nat.{_+_, _≤_};
 ghost use lib.ListN.{length, take};
 ghost use Rattle.octets.specs.Runs.{part, write, equalBytes};
 ghost use Rattle.signing.specs.Signing.{zeros, authenticator, messageAuthenticator};
-ghost use Rattle.signing.specs.Block.{blockCount, hashed};
-use md5::State;
 
 // What comes before the attributes, with auth in the authenticator's place, at the start of a block.
 fn front(buf: &mut [u8], p: &[u8], auth: &[u8])
@@ -71,26 +67,4 @@ pub fn mac_right(p: &[u8], n: usize, auth: &[u8], at: usize, secret: &[u8]) -> b
 {
     let d = message_authenticator(p, n, auth, at, secret);
     octets::equal16(p, at, &d, 0)
-}
-
-// How many blocks a message of n bytes has.
-pub fn block_count(n: usize) -> usize
-    ensures { λ r. ⌜ r ≡ blockCount n ⌝ }
-{
-    n / 64 + (n % 64 + 8) / 64 + 1
-}
-
-// The chaining words after block k of a signed request, from q on. A block that lies in the packet is hashed there.
-pub fn hash_block(q: State, p: &[u8], n: usize, secret: &[u8], k: usize) -> State
-    requires { ⌜ (20 ≤ n) × (n ≤ length (now p)) × (n ≤ 4096) × (length (now secret) ≤ 64) × (k < blockCount (n + length (now secret))) ⌝ }
-    ensures { λ r. ⌜ r ≡ hashed q k (now (p .entry)) n (now (secret .entry)) ⌝ }
-{
-    if 0 < k {
-        if k < n / 64 {
-            let s = 64 * k;
-            return md5::blocks(q, &p[s..s + 64]);
-        }
-    }
-    let b = blocks::request_block(p, n, secret, k);
-    md5::blocks(q, &b)
 }

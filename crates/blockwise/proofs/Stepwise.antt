@@ -8,9 +8,9 @@ use lib.ListN.{length, length-take, length-drop}
 use Rattle.md5.specs.declared.State.{State}
 use Rattle.md5.specs.Md5.{initial, output, md5}
 use Rattle.md5.proofs.After.{block-count, length-pad}
 use Rattle.signing.specs.Signing.{zeros, signed, authenticator}
-use Rattle.signing.specs.Block.{blockCount, requestBlock, hashed, hashedTo}
+use Rattle.blockwise.specs.Block.{blockCount, requestBlock, hashed, hashedTo}
 use Rattle.signing.proofs.Messages.{Alike, length-zeros, length-signed, same-signed}
 
 pub blocks-none : (p : List ℕ) (n : ℕ) (secret : List ℕ) → hashedTo 0 p n secret ≡ initial
 unfolding hashedTo

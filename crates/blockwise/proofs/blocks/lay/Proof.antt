@@ -1,9 +1,9 @@
--- `signing::blocks::lay` meets its contract: what of the part the block sees is copied, whether it begins before the block, in it or behind it.
+-- `blockwise::blocks::lay` meets its contract: what of the part the block sees is copied, whether it begins before the block, in it or behind it.
 -- Assumes nothing.
 use borrow.Author.Needs.{needs}
-use Rattle.signing.proofs.Windows.{part-fits, laid-before, laid-in, laid-behind}
-use Rattle.signing.proofs.blocks.lay.Statement.{statement}
-use Rattle.signing.proofs.blocks.lay.Tie as tie
+use Rattle.blockwise.proofs.Windows.{part-fits, laid-before, laid-in, laid-behind}
+use Rattle.blockwise.proofs.blocks.lay.Statement.{statement}
+use Rattle.blockwise.proofs.blocks.lay.Tie as tie
 
 copy-requires : tie.Need-copy-requires
 copy-requires c κs = search (needs, part-fits)

@@ -1,12 +1,12 @@
--- `signing::blocks::request_block` meets its contract: the packet, the secret and the padding stand behind each other, and fill the block.
+-- `blockwise::blocks::request_block` meets its contract: the packet, the secret and the padding stand behind each other, and fill the block.
 -- Assumes nothing.
 use borrow.Author.Needs.{needs}
 use mathlib.Core.Path.{refl}
 use native.Mathlib.Omega.{arith}
-use Rattle.signing.specs.Block.{blockCount}
-use Rattle.signing.proofs.Built.{block-laid}
-use Rattle.signing.proofs.blocks.request_block.Statement.{statement}
-use Rattle.signing.proofs.blocks.request_block.Tie as tie
+use Rattle.blockwise.specs.Block.{blockCount}
+use Rattle.blockwise.proofs.Built.{block-laid}
+use Rattle.blockwise.proofs.blocks.request_block.Statement.{statement}
+use Rattle.blockwise.proofs.blocks.request_block.Tie as tie
 
 mul-s : tie.Need-mul-s
 unfolding blockCount

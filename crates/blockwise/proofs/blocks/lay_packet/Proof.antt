@@ -1,12 +1,12 @@
--- `signing::blocks::lay_packet` meets its contract: the three parts stand behind each other.
+-- `blockwise::blocks::lay_packet` meets its contract: the three parts stand behind each other.
 -- Assumes nothing.
 use borrow.Author.Needs.{needs}
 use native.Mathlib.Omega.{arith}
 use lib.ListN.{length-take}
 use mathlib.Core.Path.{refl}
-use Rattle.signing.proofs.Built.{packet-laid}
-use Rattle.signing.proofs.blocks.lay_packet.Statement.{statement}
-use Rattle.signing.proofs.blocks.lay_packet.Tie as tie
+use Rattle.blockwise.proofs.Built.{packet-laid}
+use Rattle.blockwise.proofs.blocks.lay_packet.Statement.{statement}
+use Rattle.blockwise.proofs.blocks.lay_packet.Tie as tie
 
 slice-aggregate-lay : tie.Need-slice-aggregate-lay
 slice-aggregate-lay c = simp length-take (omega arith)

@@ -1,10 +1,10 @@
--- `signing::block_count` meets its contract: n / 64 and n % 64 are taken apart, so that no sum wraps.
+-- `blockwise::block_count` meets its contract: n / 64 and n % 64 are taken apart, so that no sum wraps.
 -- Assumes nothing.
 use borrow.Author.Needs.{needs}
 use native.Mathlib.Omega.{arith}
-use Rattle.signing.specs.Block.{blockCount}
-use Rattle.signing.proofs.block_count.Statement.{statement}
-use Rattle.signing.proofs.block_count.Tie as tie
+use Rattle.blockwise.specs.Block.{blockCount}
+use Rattle.blockwise.proofs.block_count.Statement.{statement}
+use Rattle.blockwise.proofs.block_count.Tie as tie
 
 returns : tie.Need-returns
 unfolding blockCount

@@ -1,10 +1,10 @@
--- `signing::blocks::count` meets its contract: the count fits two bytes.
+-- `blockwise::blocks::count` meets its contract: the count fits two bytes.
 -- Assumes nothing.
 use borrow.Author.Needs.{needs}
 use native.Mathlib.Omega.{arith}
-use Rattle.signing.proofs.Built.{count-bytes}
-use Rattle.signing.proofs.blocks.count.Statement.{statement}
-use Rattle.signing.proofs.blocks.count.Tie as tie
+use Rattle.blockwise.proofs.Built.{count-bytes}
+use Rattle.blockwise.proofs.blocks.count.Statement.{statement}
+use Rattle.blockwise.proofs.blocks.count.Tie as tie
 
 returns : tie.Need-returns
 returns c = count-bytes _ (omega arith)

@@ -8,7 +8,7 @@ use lib.ListN.{length, take, drop, replicate, length-take, length-drop, drop-of-
 use lib.Seq.{take-nil, drop-nil, take-all, take-append-le, take-append-add, drop-append-le, drop-append-add}
 use Rattle.octets.specs.Runs.{part, write}
 use Rattle.octets.proofs.Write.{write-nil, write-then, write-whole}
-use Rattle.signing.specs.Window.{window}
+use Rattle.blockwise.specs.Window.{window}
 
 part-short : (i n : ℕ) (l : List ℕ) → length (part i n l) ≤ n
 unfolding part

@@ -4,9 +4,9 @@ ghost use mathlib.Core.List.{List, [], _++_};
 ghost use Prim.Native.Nat.{ℕ, _+_, _*_, _<_, _≤_};
 ghost use lib.ListN.{length};
 ghost use Rattle.md5.specs.Md5.{leBytes, padding};
 ghost use Rattle.signing.specs.Signing.{zeros, withAuth};
-ghost use Rattle.signing.specs.Block.{blockCount, requestBlock};
-ghost use Rattle.signing.specs.Window.{window};
+ghost use Rattle.blockwise.specs.Block.{blockCount, requestBlock};
+ghost use Rattle.blockwise.specs.Window.{window};
 
 // The buffer is the block from place s on of a message of at bytes; then it is that of the message with v behind it.
 fn lay(buf: &mut [u8], s: usize, at: usize, v: &[u8])

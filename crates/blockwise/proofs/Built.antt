@@ -10,12 +10,12 @@ use lib.Seq.{take-all, take-take, take-append-le, drop-append-le, drop-append-ad
 use Rattle.octets.specs.Runs.{part}
 use Rattle.md5.specs.declared.State.{State}
 use Rattle.md5.specs.Md5.{leBytes, padding, pad, after, md5Block}
 use Rattle.signing.specs.Signing.{zeros, withAuth, signed}
-use Rattle.signing.specs.Block.{blockCount, requestBlock, hashed}
-use Rattle.signing.specs.Window.{window}
+use Rattle.blockwise.specs.Block.{blockCount, requestBlock, hashed}
+use Rattle.blockwise.specs.Window.{window}
 use Rattle.signing.proofs.Messages.{between, drop-take, length-zeros, length-withAuth, length-signed}
-use Rattle.signing.proofs.Stepwise.{length-requestBlock}
-use Rattle.signing.proofs.Windows.{window-none, window-full}
+use Rattle.blockwise.proofs.Stepwise.{length-requestBlock}
+use Rattle.blockwise.proofs.Windows.{window-none, window-full}
 
 -- a call of `lay` with the part v
 abbrev Laid : ℕ → ℕ → List ℕ → List ℕ → List ℕ → Type 0

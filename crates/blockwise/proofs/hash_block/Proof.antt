@@ -1,9 +1,9 @@
--- `signing::hash_block` meets its contract: behind the first block the message is the packet, up to Length.
+-- `blockwise::hash_block` meets its contract: behind the first block the message is the packet, up to Length.
 -- Assumes nothing.
 use borrow.Author.Needs.{needs}
-use Rattle.signing.proofs.Built.{hashed-there, hashed-built}
-use Rattle.signing.proofs.hash_block.Statement.{statement}
-use Rattle.signing.proofs.hash_block.Tie as tie
+use Rattle.blockwise.proofs.Built.{hashed-there, hashed-built}
+use Rattle.blockwise.proofs.hash_block.Statement.{statement}
+use Rattle.blockwise.proofs.hash_block.Tie as tie
 
 returns : tie.Need-returns
 returns c = search (needs, hashed-there)

@@ -1,12 +1,12 @@
--- `signing::blocks::lay_padding` meets its contract: the mark with its zeros, and the count behind them.
+-- `blockwise::blocks::lay_padding` meets its contract: the mark with its zeros, and the count behind them.
 -- Assumes nothing.
 use borrow.Author.Needs.{needs}
 use native.Mathlib.Omega.{arith}
 use lib.ListN.{length-take}
 use mathlib.Core.Path.{refl}
-use Rattle.signing.proofs.Built.{padding-laid}
-use Rattle.signing.proofs.blocks.lay_padding.Statement.{statement}
-use Rattle.signing.proofs.blocks.lay_padding.Tie as tie
+use Rattle.blockwise.proofs.Built.{padding-laid}
+use Rattle.blockwise.proofs.blocks.lay_padding.Statement.{statement}
+use Rattle.blockwise.proofs.blocks.lay_padding.Tie as tie
 
 slice-aggregate-lay : tie.Need-slice-aggregate-lay
 slice-aggregate-lay c = simp length-take (omega arith)

@@ -1,0 +1,3 @@
+pub mod Stepwise
+mod Windows
+mod Built
