@@ -1,5 +1,6 @@
 pub mod Replied
 pub mod Acked
+pub mod Silent
 pub mod Second
 pub mod Discarding
 pub mod Handled

@@ -1,7 +1,7 @@
 -- Demand 2: the definitions say it, and the laws of the handler, the replies, the effects and the exchanges give each field.
 -- Assumes nothing.
-use mathlib.Core.Path.{_≡_, refl, sym, ap, _∙_}
-use mathlib.Core.Bool.{true, false, true≢false}
+use mathlib.Core.Path.{_≡_, refl, ap, _∙_}
+use mathlib.Core.Bool.{true, false}
 use mathlib.Core.List.{List}
 use Prim.Native.Nat.{ℕ, _≤_, _<_}
 use native.Mathlib.Omega.{arith}
@@ -31,27 +31,13 @@ use Rattle.answers.specs.Replies.{replyAs}
 use Rattle.handler.specs.Refusals.{refusalOf}
 use Rattle.handler.specs.Handle.{answerOf, tableAs, handleAnswer, handleTable, handleReply}
 use Rattle.handler.proofs.Bounds.{reply-bound}
-use Rattle.handler.proofs.Bounds as B
 use Rattle.exchanges.proofs.Answered.{reply-passes}
 use Rattle.exchanges.proofs.Requests.{written-form, written-signed, written-maced}
-use Rattle.demands.specs.Answers.{silent, replySize}
+use Rattle.demands.specs.Answers.{silent}
 use Rattle.demands.specs.Demand2.{Bytes, Altered, Carries, Demand2}
 use Rattle.demands.proofs.Replied.{formed}
 use Rattle.demands.proofs.Acked.{acked}
-
-silent-table-by : (p t : List ℕ) (a : D.Answer) → silent a ≡ true → tableAs p t a ≡ t
-silent-table-by p t (A.Refused n) h = refl
-silent-table-by p t (A.Discarded d) h = refl
-silent-table-by p t (A.Stale k) h = refl
-silent-table-by p t (A.Nak c k n) h = refl
-silent-table-by p t (A.Ack m k n) h = absurd (true≢false (sym h))
-
-silent-reply-by : (secret p b : List ℕ) (a : D.Answer) → silent a ≡ true → replyAs secret p b a ≡ b
-silent-reply-by secret p b (A.Refused n) h = refl
-silent-reply-by secret p b (A.Discarded d) h = refl
-silent-reply-by secret p b (A.Stale k) h = refl
-silent-reply-by secret p b (A.Nak c k n) h = absurd (true≢false (sym h))
-silent-reply-by secret p b (A.Ack m k n) h = absurd (true≢false (sym h))
+use Rattle.demands.proofs.Silent.{silent-table-by, silent-reply-by, size-is}
 
 others-by : (p t : List ℕ) (k : ℕ) (a : D.Answer) → k < slotCount t → matchesIn (areaOf p) t k ≡ false → slot k (tableAs p t a) ≡ slot k t
 others-by p t k (A.Refused n) l h = refl
@@ -124,13 +110,6 @@ module _ (g : Settings) (t b p : List ℕ) (clock : ℕ) where
 
     altered : codeOf p ≡ 43 → Altered (areaOf p) (slot k t) (slot k (handleTable g t b p clock))
     altered e = rw (after 43 e) altered-to
-
-size-is : (a : D.Answer) → replySize a ≡ B.replySize a
-size-is (A.Refused n) = refl
-size-is (A.Discarded d) = refl
-size-is (A.Stale k) = refl
-size-is (A.Nak c k n) = refl
-size-is (A.Ack m k n) = refl
 
 pub demand2 : (g : Settings) (t b p : List ℕ) (clock : ℕ) → Demand2 g t b p clock
 demand2 g t b p clock =

@@ -40,21 +40,22 @@ module _ (j : Job) (q t : List ℕ) (k m : ℕ) (is : m ≡ slotCount t) where
 
 module _ (secret name q t : List ℕ) (address k : ℕ) (j : Job) (count ends sizes : List ℕ) (x : D.Again) (told : Told address name (j .length) q count ends sizes x) where
   pub gone-move : x ≡ Gone → (r : Moved) → r ≡ done (A.Discarded 1) → r ≡ slotMove (settings secret address name) j k q t
-  unfolding slotMove
+  unfolding slotMove Told
   gone-move h r e = e ∙ rw ((rw h at told) secret)
 
   pub gone-table : x ≡ Gone → t ≡ slotTable (settings secret address name) j k q t
-  unfolding slotTable
+  unfolding slotTable Told
   gone-table h = rw ((rw h at told) secret)
 
   module _ (f : Flags) (v : ℕ) (h : x ≡ Held f v) where
     pub held-stands : Stands (j .length) q v f count ends sizes
+    unfolding Told
     held-stands = (rw h at told) .1
 
     pub held-move : (r : Moved) → r ≡ cond (ltb k (slotCount t)) (going (matchJob j k q t)) (commitMove j q t) → r ≡ slotMove (settings secret address name) j k q t
-    unfolding slotMove
+    unfolding slotMove Told
     held-move r e = e ∙ rw ((rw h at told) .0 secret)
 
     pub held-table : (u : List ℕ) → u ≡ cond (ltb k (slotCount t)) t (commitTable q (j .marks) t) → u ≡ slotTable (settings secret address name) j k q t
-    unfolding slotTable
+    unfolding slotTable Told
     held-table u e = e ∙ rw ((rw h at told) .0 secret)

@@ -23,7 +23,8 @@ use Rattle.rules.specs.Discards.{formOf, Sized}
 use Rattle.rules.specs.Verdict.{applies}
 use Rattle.rules.proofs.Forms.{good-sized, form-good}
 use Rattle.reread.specs.Reread.{holds, oddMac, holdsPassed}
-use Rattle.reread.specs.Again.{Stands}
+use Rattle.reread.specs.declared.Again.the-variants.{Gone, Held}
+use Rattle.reread.specs.Again.{Stands, Told}
 use Rattle.reread.proofs.Rereading.{none-applies}
 
 both : (a b : Bool) → (a && b) ≡ true → (a ≡ true) × (b ≡ true)
@@ -56,9 +57,9 @@ module _ (n : ℕ) (q : List ℕ) (b : Bool) (is : b ≡ holds n q) (h : b ≡ t
   pub held-long : 20 ≤ length q
   held-long = omega (arith, held-low, held-given)
 
-pub gone-passed : (secret name q : List ℕ) (address n : ℕ) (b : Bool) → b ≡ holds n q → b ≡ false → holdsPassed (settings secret address name) n q ≡ false
-unfolding holdsPassed
-gone-passed secret name q address n b is h = rw (← is, h)
+pub gone-passed : (name q count ends sizes : List ℕ) (address n : ℕ) (b : Bool) → b ≡ holds n q → b ≡ false → Told address name n q count ends sizes Gone
+unfolding holdsPassed Told
+gone-passed name q count ends sizes address n b is h = λ secret. rw (← is, h)
 
 -- ---- the rest
 
@@ -67,23 +68,21 @@ module _ (name s q : List ℕ) (address n : ℕ) (f : Flags) (count ends sizes :
   unfolding holds
   held = rw (form, eq-eqb _ _ (sym (sized .is)))
 
-  pub gone-stamp : (secret : List ℕ) → x ≡ Unusable → holdsPassed (settings secret address name) n q ≡ false
-  unfolding holdsPassed
-  gone-stamp secret h = rw (held, ← area, ← stamp, h)
+  pub gone-stamp : x ≡ Unusable → Told address name n q count ends sizes Gone
+  unfolding holdsPassed Told
+  gone-stamp h = λ secret. rw (held, ← area, ← stamp, h)
 
   module _ (v : ℕ) (usable : x ≡ Usable v) (b : Bool) (is : b ≡ (not (any oddMac (attributes s)) && not (applies (causeOf (codeOf q) address name s)))) where
-    pub passed-by : (secret : List ℕ) → holdsPassed (settings secret address name) n q ≡ b
+    passed-by : (secret : List ℕ) → holdsPassed (settings secret address name) n q ≡ b
     unfolding holdsPassed
     passed-by secret = rw (held, ← area, ← stamp, usable, ← is)
 
-    pub gone-objected : (secret : List ℕ) → b ≡ false → holdsPassed (settings secret address name) n q ≡ false
-    gone-objected secret h = passed-by secret ∙ h
+    pub gone-objected : b ≡ false → Told address name n q count ends sizes Gone
+    unfolding Told
+    gone-objected h = λ secret. passed-by secret ∙ h
 
-    pub held-passed : (secret : List ℕ) → b ≡ true → holdsPassed (settings secret address name) n q ≡ true
-    held-passed secret h = passed-by secret ∙ h
-
-    pub held-stands : Surveyed s (codeOf q) f count ends sizes → b ≡ true → Stands n q v f count ends sizes
-    held-stands i h =
+    stands : Surveyed s (codeOf q) f count ends sizes → b ≡ true → Stands n q v f count ends sizes
+    stands i h =
         let two = both _ _ (sym is ∙ h) in
         let none : causeOf (codeOf q) address name s ≡ NoCause = none-applies _ (not-true _ (two .1)) in
         record {
@@ -95,3 +94,7 @@ module _ (name s q : List ℕ) (address n : ℕ) (f : Flags) (count ends sizes :
           fits = rw (← area) (misfit (codeOf q) address name s none);
           once = rw (← area) (repeated (codeOf q) address name s none);
         }
+
+    pub held-told : Surveyed s (codeOf q) f count ends sizes → b ≡ true → Told address name n q count ends sizes (Held f v)
+    unfolding Told
+    held-told i h = (λ secret. passed-by secret ∙ h, stands i h)

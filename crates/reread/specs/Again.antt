@@ -27,6 +27,6 @@ pub record Stands (n : ℕ) (q : List ℕ) (v : ℕ) (f : Flags) (count ends siz
   pub once : found (firstRepeated none (attributes (areaOf q))) ≡ false
 
 -- what the re-reading tells; the secret plays no part
-abbrev pub Told : ℕ → List ℕ → ℕ → List ℕ → List ℕ → List ℕ → List ℕ → D.Again → Type 0
+unfoldable pub Told : ℕ → List ℕ → ℕ → List ℕ → List ℕ → List ℕ → List ℕ → D.Again → Type 0
 Told address name n q count ends sizes Gone = (secret : List ℕ) → holdsPassed (settings secret address name) n q ≡ false
 Told address name n q count ends sizes (Held f v) = ((secret : List ℕ) → holdsPassed (settings secret address name) n q ≡ true) × Stands n q v f count ends sizes

@@ -1,18 +1,18 @@
 -- `reread::judged` meets its contract: stamp, type 80 and causes, each by its own return.
 -- Assumes nothing.
 use borrow.Author.Needs.{needs}
-use Rattle.reread.proofs.Retold.{gone-stamp, gone-objected, held-passed, held-stands}
+use Rattle.reread.proofs.Retold.{gone-stamp, gone-objected, held-told}
 use Rattle.reread.proofs.judged.Statement.{statement}
 use Rattle.reread.proofs.judged.Tie as tie
 
 returns : tie.Need-returns
-returns c = (λ secret. search (needs, held-passed), search (needs, held-stands))
+returns c = search (needs, held-told)
 
 returns-2 : tie.Need-returns-2
-returns-2 c = λ secret. search (needs, gone-stamp)
+returns-2 c = search (needs, gone-stamp)
 
 returns-3 : tie.Need-returns-3
-returns-3 c = λ secret. search (needs, gone-objected)
+returns-3 c = search (needs, gone-objected)
 
 pub judged-spec : {M : Type 1} → statement M
 judged-spec =

@@ -9,7 +9,7 @@ scanned-requires : tie.Need-scanned-requires
 scanned-requires c κs = ((search (needs, held-sized), search (needs, held-form)), (search needs, search needs, search needs))
 
 returns-2 : tie.Need-returns-2
-returns-2 c = λ secret. search (needs, gone-passed)
+returns-2 c = search (needs, gone-passed)
 
 pub passed-spec : {M : Type 1} → statement M
 passed-spec = tie.close (tie.spec (λ c κs. search needs) scanned-requires (λ c. search needs) returns-2)
