@@ -10,7 +10,7 @@ use Rattle.answers.specs.declared.Answer as D
 use Rattle.answers.specs.declared.Answer.the-variants as A
 use Rattle.handler.specs.Handle.{handleAnswer}
 use Rattle.handler.proofs.Bounds.{replySize, changeCount, reply-most, change-few}
-use Rattle.capi.specs.Numbers.{numberOf, changedBy, lengthBy, skewBy, stampedBy}
+use Rattle.reports.specs.Numbers.{numberOf, changedBy, lengthBy, skewBy, stampedBy}
 
 changed-is : (a : D.Answer) → changedBy a 0 ≡ changeCount a
 unfolding changedBy

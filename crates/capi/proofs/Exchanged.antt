@@ -1,56 +1,19 @@
--- The writer's and the reply check's answers as numbers, case by case. A request is at most 4,096 bytes long.
+-- The numbers of a written request fit C's: a request is at most 4,096 bytes long. What is told of an answer is told of the definition's.
 -- Assumes nothing.
 use mathlib.Core.Path.{_≡_, refl, ap, _∙_}
 use mathlib.Core.Bool.{Bool, true, false, cond}
 use mathlib.Core.List.{List}
-use Prim.Native.Nat.{ℕ, _+_, _<_}
+use Prim.Native.Nat.{ℕ, _<_}
 use native.Mathlib.Omega.{arith}
 use borrow.Author.Tests.{eqb-true}
 use lib.Dec.{eqb}
 use Rattle.requests.specs.declared.Written as W
 use Rattle.requests.specs.declared.Written.the-variants.{Done, NotWritten}
 use Rattle.requests.specs.declared.Checked as C
-use Rattle.requests.specs.declared.Checked.the-variants.{Right, Failed, NotChecked}
 use Rattle.requests.specs.Writer.{Draft, writeRefusal, requestLength, writeAnswer}
 use Rattle.requests.specs.ReplyCheck.{checkAnswer}
 use Rattle.exchanges.proofs.Requests.{written-short}
-use Rattle.capi.specs.Numbers.{writtenNumber, writtenLength, checkedNumber}
-
-module _ (w : W.Written) (n : ℕ) (e : w ≡ Done n) where
-  pub done-number : 0 ≡ writtenNumber w
-  unfolding writtenNumber
-  done-number = rw e
-
-  pub done-length : (v old : ℕ) → v ≡ n → v ≡ writtenLength w old
-  unfolding writtenLength
-  done-length v old h = h ∙ rw e
-
-  pub done-fits : writtenLength w 0 < 4294967296 → n < 4294967296
-  unfolding writtenLength
-  done-fits h = rw e at h
-
-module _ (w : W.Written) (r : ℕ) (e : w ≡ NotWritten r) where
-  pub unwritten-number : (v : ℕ) → v ≡ r → v ≡ writtenNumber w
-  unfolding writtenNumber
-  unwritten-number v h = h ∙ rw e
-
-  pub unwritten-length : (old : ℕ) → old ≡ writtenLength w old
-  unfolding writtenLength
-  unwritten-length old = rw e
-
-pub right-number : (c : C.Checked) → c ≡ Right → 0 ≡ checkedNumber c
-unfolding checkedNumber
-right-number c e = rw e
-
-pub failed-number : (c : C.Checked) (n v : ℕ) → c ≡ Failed n → v ≡ 200 + n → v ≡ checkedNumber c
-unfolding checkedNumber
-failed-number c n v e h = h ∙ rw e
-
-pub unchecked-number : (c : C.Checked) (n v : ℕ) → c ≡ NotChecked n → v ≡ n → v ≡ checkedNumber c
-unfolding checkedNumber
-unchecked-number c n v e h = h ∙ rw e
-
--- ---- of the definitions' answers
+use Rattle.reports.specs.Numbers.{writtenNumber, writtenLength, checkedNumber}
 
 by-refusal : (b : Bool) (n r : ℕ) → (b ≡ true → n < 4294967296) → writtenLength (cond b (Done n) (NotWritten r)) 0 < 4294967296
 unfolding writtenLength

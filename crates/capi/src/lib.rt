@@ -1,7 +1,4 @@
 // The library as C calls it: numbers and byte runs. Nothing is decided here.
-mod exchange; // exchange.rt: a request written, a reply checked, as numbers
-mod numbers; // numbers.rt: an answer as numbers
-mod outcome; // outcome.rt: what a call on a scheduler hands to C
 mod stepping; // stepping.rt: the scheduler
 
 ghost use mathlib.Core.Path.{_≡_};
@@ -11,7 +8,7 @@ ghost use Rattle.rules.specs.Settings.{settings};
 ghost use Rattle.handler.specs.Handle.{handleAnswer, handleTable, handleReply};
 ghost use Rattle.requests.specs.Writer.{draft, writeAnswer, writeOutput};
 ghost use Rattle.requests.specs.ReplyCheck.{checkAnswer};
-ghost use Rattle.capi.specs.Numbers.{numberOf, changedBy, lengthBy, skewBy, stampedBy, writtenNumber, writtenLength, checkedNumber};
+ghost use Rattle.reports.specs.Numbers.{numberOf, changedBy, lengthBy, skewBy, stampedBy, writtenNumber, writtenLength, checkedNumber};
 
 // Handles a request.
 #[no_mangle]
@@ -37,11 +34,11 @@ pub extern "C" fn fbk_handle(
     ensures { λ _. ⌜ now (stamped .exit) ≡ stampedBy (handleAnswer (settings (now (secret .entry)) address (now (name .entry))) (now (table .entry)) (now (reply .entry)) (now (packet .entry)) clock) (now (stamped .entry)) ⌝ }
 {
     let a = handler::handle(table, secret, address, name, reply, packet, clock);
-    *changed = numbers::changed(a, *changed);
-    *size = numbers::size(a, *size);
-    *skew = numbers::skew(a, *skew);
-    *stamped = numbers::stamped(a, *stamped);
-    numbers::number(a)
+    *changed = reports::numbers::changed(a, *changed);
+    *size = reports::numbers::size(a, *size);
+    *skew = reports::numbers::skew(a, *skew);
+    *stamped = reports::numbers::stamped(a, *stamped);
+    reports::numbers::number(a)
 }
 
 // Writes a request.
@@ -60,8 +57,8 @@ pub extern "C" fn fbk_write(
     ensures { λ _. ⌜ now (size .exit) ≡ writtenLength (writeAnswer (now (secret .entry)) (now (out .entry)) (draft code identifier (now (given .entry)) (not (eqb add 0)))) (now (size .entry)) ⌝ }
 {
     let w = requests::write_request(code, identifier, given, add != 0, secret, out);
-    *size = exchange::written_length(w, *size);
-    exchange::written_number(w)
+    *size = reports::exchange::written_length(w, *size);
+    reports::exchange::written_number(w)
 }
 
 // Checks a reply.
@@ -69,5 +66,5 @@ pub extern "C" fn fbk_write(
 pub extern "C" fn fbk_check_reply(secret: &[u8], request: &[u8], reply: &[u8]) -> u32
     ensures { λ r. ⌜ r ≡ checkedNumber (checkAnswer (now (secret .entry)) (now (request .entry)) (now (reply .entry))) ⌝ }
 {
-    exchange::checked_number(requests::check_reply(secret, request, reply))
+    reports::exchange::checked_number(requests::check_reply(secret, request, reply))
 }

@@ -1,0 +1,3 @@
+pub mod Told
+pub mod Exchanged
+pub mod Reported

@@ -1,0 +1,21 @@
+-- `reports::numbers::skew` meets its contract: a discard without a stamp has none.
+-- Assumes nothing.
+use borrow.Author.Needs.{needs}
+use Rattle.reports.proofs.Told.{refused-skew, discarded-skew, stale-skew, nak-skew, ack-skew}
+use Rattle.reports.proofs.numbers.skew.Statement.{statement}
+use Rattle.reports.proofs.numbers.skew.Tie as tie
+
+pub skew-spec : {M : Type 1} → statement M
+skew-spec =
+    tie.close
+    (tie.spec
+    (λ c. search needs)
+    (λ c. search needs)
+    (λ c. search needs)
+    (λ c. search needs)
+    (λ c. search needs)
+    (λ c. search (needs, refused-skew))
+    (λ c. search (needs, discarded-skew))
+    (λ c. search (needs, stale-skew))
+    (λ c. search (needs, nak-skew))
+    (λ c. search (needs, ack-skew)))
