@@ -34,11 +34,7 @@ pub extern "C" fn fbk_handle(
     ensures { λ _. ⌜ now (stamped .exit) ≡ stampedBy (handleAnswer (settings (now (secret .entry)) address (now (name .entry))) (now (table .entry)) (now (reply .entry)) (now (packet .entry)) clock) (now (stamped .entry)) ⌝ }
 {
     let a = handler::handle(table, secret, address, name, reply, packet, clock);
-    *changed = reports::numbers::changed(a, *changed);
-    *size = reports::numbers::size(a, *size);
-    *skew = reports::numbers::skew(a, *skew);
-    *stamped = reports::numbers::stamped(a, *stamped);
-    reports::numbers::number(a)
+    reports::numbers::tell(a, changed, size, skew, stamped)
 }
 
 // Writes a request.

@@ -73,7 +73,9 @@ module _ (o : O.Outcome) (r : R.Report) where
 -- ---- the struct
 
 pub called-parts : (c : S.Called) (s : L.CScheduler) (r : R.Report) → s ≡ schedulerOut (c .scheduler) → r ≡ reportOf (c .outcome) → record { scheduler = s; report = r } ≡ calledOut c
+unfolding calledOut
 called-parts c s r e h = rw (e, h)
 
 pub made-parts : (m : M.Made) (s : L.CScheduler) (r : R.Report) (n : ℕ) → s ≡ schedulerOut (m .scheduler) → r ≡ plain n → n ≡ m .refusal → record { scheduler = s; report = r } ≡ madeOut m
+unfolding madeOut
 made-parts m s r n e h g = rw (e, h, g)

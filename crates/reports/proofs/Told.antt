@@ -125,3 +125,7 @@ module _ (a : D.Answer) (m : ℕ) (k : ℤ) (n : ℕ) (e : a ≡ A.Ack m k n) wh
   pub ack-few : changedBy a 0 < 4294967296 → m < 4294967296
   unfolding changedBy
   ack-few h = rw e at h
+
+-- k and old, and the same as the machine holds them
+pub held-skew : (a : D.Answer) (k k′ old old′ : ℤ) → k ≡ skewBy a old′ → k′ ≡ k → old′ ≡ old → k′ ≡ skewBy a old
+held-skew a k k′ old old′ h e i = e ∙ h ∙ rw i

@@ -39,9 +39,9 @@ reportOf Dropped = plain 0
 reportOf (Started k) = counted k
 reportOf Ended = plain 0
 
-abbrev pub calledOut : S.Called → C.CCalled
+unfoldable pub calledOut : S.Called → C.CCalled
 calledOut c = record { scheduler = schedulerOut (c .scheduler); report = reportOf (c .outcome) }
 
 -- a scheduler made: 0, or the R number
-abbrev pub madeOut : M.Made → C.CCalled
+unfoldable pub madeOut : M.Made → C.CCalled
 madeOut m = record { scheduler = schedulerOut (m .scheduler); report = plain (m .refusal) }

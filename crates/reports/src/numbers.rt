@@ -18,7 +18,7 @@ pub fn number(a: Answer) -> u32
 }
 
 // The number of sessions changed.
-pub fn changed(a: Answer, old: u32) -> u32
+fn changed_by(a: Answer, old: u32) -> u32
     requires { ⌜ changedBy a 0 < 4294967296 ⌝ }
     ensures { λ r. ⌜ r ≡ changedBy a old ⌝ }
 {
@@ -32,7 +32,7 @@ pub fn changed(a: Answer, old: u32) -> u32
 }
 
 // The reply's length.
-pub fn size(a: Answer, old: u32) -> u32
+fn length_by(a: Answer, old: u32) -> u32
     requires { ⌜ lengthBy a 0 < 4294967296 ⌝ }
     ensures { λ r. ⌜ r ≡ lengthBy a old ⌝ }
 {
@@ -46,7 +46,7 @@ pub fn size(a: Answer, old: u32) -> u32
 }
 
 // The signed skew.
-pub fn skew(a: Answer, old: i64) -> i64
+fn skew_by(a: Answer, old: i64) -> i64
     ensures { λ r. ⌜ r ≡ skewBy a old ⌝ }
 {
     match a {
@@ -59,7 +59,7 @@ pub fn skew(a: Answer, old: i64) -> i64
 }
 
 // Whether a stamp is usable.
-pub fn stamped(a: Answer, old: u32) -> u32
+fn stamped_by(a: Answer, old: u32) -> u32
     ensures { λ r. ⌜ r ≡ stampedBy a old ⌝ }
 {
     match a {
@@ -69,4 +69,21 @@ pub fn stamped(a: Answer, old: u32) -> u32
         Answer::Nak(cause, k, n) => 1,
         Answer::Ack(count, k, n) => 1,
     }
+}
+
+// The answer, and the four numbers beside it written.
+pub fn tell(a: Answer, changed: &mut u32, size: &mut u32, skew: &mut i64, stamped: &mut u32) -> u32
+    requires { ⌜ changedBy a 0 < 4294967296 ⌝ }
+    requires { ⌜ lengthBy a 0 < 4294967296 ⌝ }
+    ensures { λ r. ⌜ r ≡ numberOf a ⌝ }
+    ensures { λ _. ⌜ now (changed .exit) ≡ changedBy a (now (changed .entry)) ⌝ }
+    ensures { λ _. ⌜ now (size .exit) ≡ lengthBy a (now (size .entry)) ⌝ }
+    ensures { λ _. ⌜ now (skew .exit) ≡ skewBy a (now (skew .entry)) ⌝ }
+    ensures { λ _. ⌜ now (stamped .exit) ≡ stampedBy a (now (stamped .entry)) ⌝ }
+{
+    *changed = changed_by(a, *changed);
+    *size = length_by(a, *size);
+    *skew = skew_by(a, *skew);
+    *stamped = stamped_by(a, *stamped);
+    number(a)
 }

@@ -14,11 +14,7 @@ fbk-handle-spec =
     tie.close
     (tie.spec
     (λ c κs. search needs)
-    (λ c κs. search (needs, changed-fits))
-    (λ c κs. search (needs, length-fits))
-    (λ c κs. search needs)
-    (λ c κs. search needs)
-    (λ c κs. search needs)
+    (λ c κs. (search (needs, changed-fits), search (needs, length-fits)))
     (λ c. search needs)
     (λ c. search needs)
     returns)

@@ -1,12 +1,12 @@
--- `reports::numbers::size` meets its contract: a NAK and an ACK have a reply.
+-- `reports::numbers::length_by` meets its contract: a NAK and an ACK have a reply.
 -- Assumes nothing.
 use borrow.Author.Needs.{needs}
 use Rattle.reports.proofs.Told.{refused-size, discarded-size, stale-size, nak-size, ack-size, nak-fits, ack-fits}
-use Rattle.reports.proofs.numbers.size.Statement.{statement}
-use Rattle.reports.proofs.numbers.size.Tie as tie
+use Rattle.reports.proofs.numbers.length_by.Statement.{statement}
+use Rattle.reports.proofs.numbers.length_by.Tie as tie
 
-pub size-spec : {M : Type 1} → statement M
-size-spec =
+pub length-by-spec : {M : Type 1} → statement M
+length-by-spec =
     tie.close
     (tie.spec
     (λ c. search needs)

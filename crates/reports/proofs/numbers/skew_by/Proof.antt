@@ -1,12 +1,12 @@
--- `reports::numbers::skew` meets its contract: a discard without a stamp has none.
+-- `reports::numbers::skew_by` meets its contract: a discard without a stamp has none.
 -- Assumes nothing.
 use borrow.Author.Needs.{needs}
 use Rattle.reports.proofs.Told.{refused-skew, discarded-skew, stale-skew, nak-skew, ack-skew}
-use Rattle.reports.proofs.numbers.skew.Statement.{statement}
-use Rattle.reports.proofs.numbers.skew.Tie as tie
+use Rattle.reports.proofs.numbers.skew_by.Statement.{statement}
+use Rattle.reports.proofs.numbers.skew_by.Tie as tie
 
-pub skew-spec : {M : Type 1} → statement M
-skew-spec =
+pub skew-by-spec : {M : Type 1} → statement M
+skew-by-spec =
     tie.close
     (tie.spec
     (λ c. search needs)
