@@ -44,9 +44,8 @@ module _ (g : Settings) (t b p : List ℕ) (clock : ℕ) (a : D.Answer) (is : a 
   pub told-length : (n old : ℕ) → n ≡ lengthBy a old → n ≡ lengthBy (handleAnswer g t b p clock) old
   told-length n old h = h ∙ rw is
 
-  -- k and old, and the same as the machine holds them
-  pub told-skew : (k k′ old old′ : ℤ) → k ≡ skewBy a old′ → k′ ≡ k → old′ ≡ old → k′ ≡ skewBy (handleAnswer g t b p clock) old
-  told-skew k k′ old old′ h e i = e ∙ h ∙ rw (i, is)
+  pub told-skew : (k old : ℤ) → k ≡ skewBy a old → k ≡ skewBy (handleAnswer g t b p clock) old
+  told-skew k old h = h ∙ rw is
 
   pub told-stamped : (n old : ℕ) → n ≡ stampedBy a old → n ≡ stampedBy (handleAnswer g t b p clock) old
   told-stamped n old h = h ∙ rw is
