@@ -1,5 +1,5 @@
 // The library as C calls it: numbers and byte runs. Nothing is decided here.
-mod stepping; // stepping.rt: the scheduler
+mod scheduling; // scheduling.rt: the scheduler
 
 ghost use mathlib.Core.Path.{_≡_};
 ghost use mathlib.Core.Bool.{not};
