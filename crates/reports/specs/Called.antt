@@ -28,7 +28,7 @@ stampedReport skew m n answer = record { skew = skew; count = m; size = n; answe
 unfoldable pub answerReport : A.Answer → R.Report
 answerReport a = record { skew = skewBy a (pos 0); count = changedBy a 0; size = lengthBy a 0; answer = numberOf a; stamped = stampedBy a 0 }
 
--- refused or discarded at opening: as whole handling refuses and discards; 600 not finished; else 0, done
+-- a refusal, and a discard at opening: as whole handling refuses and discards; 600 not finished; else 0, done
 unfoldable pub reportOf : O.Outcome → R.Report
 reportOf (Refused n) = answerReport (Y.Refused n)
 reportOf (Discarded d) = answerReport (Y.Discarded d)
