@@ -1,0 +1,35 @@
+/* Calls on a scheduler, each beside the model: document 01's book for demand 3, which handles a request whole at the step that finished it. */
+#ifndef DESK_H
+#define DESK_H
+
+#include "harness.h"
+
+struct note {
+    int open;
+    uint8_t packet[MOST_PACKET];
+    size_t size;
+    uint32_t clock;
+};
+
+struct desk {
+    fbk_scheduler s;
+    struct gate gate;
+    struct room table, store; /* lent to each call; `wanted` is what they must be */
+    size_t table_len;         /* less than is laid where the caller lends fewer slots */
+    struct note notes[FBK_JOBS];
+    uint8_t fill[MOST_BUFFER]; /* a reply buffer before a step */
+    int written_from_outside;  /* then only what holds of any table and store is asked for */
+};
+
+/* Whether there is one: secret and name must fit. */
+int desk_make(struct desk *d, const struct gate *g);
+
+void desk_open(struct desk *d, const uint8_t *packet, size_t size, uint32_t clock, size_t store_len);
+void desk_step(struct desk *d, uint32_t job, size_t reply_size, size_t store_len);
+void desk_drop(struct desk *d, uint32_t job);
+void desk_start(struct desk *d, const struct session *one);
+void desk_end(struct desk *d, uint32_t slot);
+
+int desk_jobs(const struct desk *d); /* how many are open */
+
+#endif

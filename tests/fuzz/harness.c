@@ -1,0 +1,43 @@
+#include "harness.h"
+
+#include <string.h>
+
+static const struct numbers unwritten = {-0x1122334455667788, 0xEEEEEEEE, 0xDDDDDDDD, 0xCCCCCCCC, 0};
+static struct room numbers;
+
+size_t buffer_size(uint32_t drawn)
+{
+    static const size_t sizes[16] = {4096, 4096, 4096, 4096, 4096, 4096, 4096, 4097, 4099, MOST_BUFFER, 0, 1, 20, 2048, 4095, 4095};
+    return sizes[drawn % 16];
+}
+
+size_t table_size(uint32_t slots, uint32_t other)
+{
+    return slots >= 128 ? other % MOST_TABLE : slots % 65 * FBK_SLOT_SIZE;
+}
+
+struct bytes short_of(struct bytes part, size_t most) { return (struct bytes){part.at, part.size % most}; }
+
+size_t copy_packet(uint8_t *p, struct bytes part)
+{
+    size_t size = part.size < MOST_PACKET ? part.size : MOST_PACKET;
+    memcpy(p, part.at, size);
+    return size;
+}
+
+int is_refused(const struct told *t) { return t->answer >= 1 && t->answer <= 99; }
+
+int is_reply(const struct told *t) { return t->answer == 0 || (t->answer > 400 && t->answer < 600); }
+
+struct numbers *lay_numbers(enum side side)
+{
+    return (struct numbers *)lay(&numbers, &unwritten, sizeof unwritten, side, 0);
+}
+
+void expect_told(uint32_t answer, const struct told *wanted)
+{
+    struct numbers after = {wanted->skew, wanted->changed, wanted->reply_len, wanted->stamped, 0};
+    expect(answer == wanted->answer, "the answer");
+    must_become(&numbers, is_refused(wanted) ? &unwritten : &after);
+    expect_room(&numbers, "the numbers");
+}

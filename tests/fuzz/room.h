@@ -1,0 +1,31 @@
+/* Memory with a fence before and one behind: whoever reads or writes past it stops the process, which libFuzzer reports. */
+#ifndef ROOM_H
+#define ROOM_H
+
+#include <stddef.h>
+#include <stdint.h>
+
+#define ROOM_MOST 20480 /* bytes that fit; more than any run that is lent */
+
+struct room {
+    uint8_t *pages;    /* between the fences */
+    uint8_t *at;       /* the bytes that are lent */
+    size_t size;
+    uint8_t wanted[ROOM_MOST]; /* the same bytes as they must be */
+};
+
+enum side { AT_END, AT_START }; /* the fence that the bytes touch; at their other side stand guard bytes */
+
+/* Lends a copy of the bytes; NULL where there are none and null is asked for. */
+uint8_t *lay(struct room *r, const void *bytes, size_t size, enum side side, int null);
+
+/* What a call must make of them. */
+void must_become(struct room *r, const void *bytes);
+
+/* Ends the process where the bytes are not as `wanted` has them, or a guard byte was written to. */
+void expect_room(const struct room *r, const char *name);
+
+/* Ends the process, saying what is wrong, where it is not so. */
+void expect(int is_so, const char *wrong);
+
+#endif

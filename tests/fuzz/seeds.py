@@ -1,0 +1,106 @@
+"""Inputs to start from, made of the tests' own drafts: python3 tests/fuzz/seeds.py DIR writes DIR/PROGRAM/NUMBER and DIR/dictionary."""
+import pathlib
+import sys
+
+sys.path.insert(0, str(pathlib.Path(__file__).parent.parent))
+
+from desk import Desk  # noqa: E402
+from drafts import HOUSES, Draft  # noqa: E402
+from exchange_drafts import any_asked, any_reply  # noqa: E402
+from faults import FAULTS  # noqa: E402
+from packet_model import Gate  # noqa: E402
+from packets import attribute  # noqa: E402
+from scheduler_lists import any_gate, posted  # noqa: E402
+from table_samples import seeded  # noqa: E402
+
+COUNT = 120  # of each program's inputs
+SMALL = 4 * 192  # a table of more bytes would be what is mutated most
+ALL = 127  # everything is mended
+BUFFERS = [4096, 4096, 4096, 4096, 4096, 4096, 4096, 4097, 4099, 5000, 0, 1, 20, 2048, 4095, 4095]  # as in harness.c
+
+
+def joined(*parts):
+    """A list of parts as tests/fuzz/parts.c reads it."""
+    return b"".join(len(part).to_bytes(2, "big") + part for part in parts)
+
+
+def buffer_number(size):
+    return bytes([BUFFERS.index(size) if size in BUFFERS else 0])
+
+
+def table_numbers(table):
+    slots, rest = divmod(len(table), 192)
+    whole = rest == 0 and slots <= 64
+    return bytes([slots if whole else 128]) + (len(table) % 19200).to_bytes(2, "big")
+
+
+def small_draft(rng):
+    while True:
+        draft = Draft(rng)
+        if len(draft.table) <= SMALL:
+            return draft
+
+
+def handle(rng, turn):
+    """A call with none or one of the faults. Every other is mended, which the draft's packet needs not until it is mutated."""
+    draft = small_draft(rng)
+    if turn % 3:
+        FAULTS[turn // 3 % len(FAULTS)][1](draft)
+    call = draft.call()
+    what, clock = (ALL, 512) if turn % 2 else (0, call.clock)
+    table = call.table or b""
+    settings = bytes([what]) + table_numbers(table) + buffer_number(len(call.reply or b"")) + b"\1"
+    settings += call.address.to_bytes(4, "big") + clock.to_bytes(4, "big") + b"reply"
+    return joined(settings, call.secret or b"", call.name or b"", table[:SMALL], (call.packet or b"")[:600])
+
+
+def write(rng, turn):
+    asked, _ = any_asked(rng)
+    codes = [40, 43, 40, 43, 41, 296, 2**31 + 40, 0]  # as in write.c
+    code = codes.index(asked.code) if asked.code in codes else 7
+    settings = bytes([ALL if turn % 2 else 0, code]) + asked.add.to_bytes(4, "big") + bytes([asked.identifier])
+    settings += buffer_number(len(asked.out or b"")) + b"\1output"
+    return joined(settings, asked.secret or b"", asked.given or b"")
+
+
+def check_reply(rng, turn):
+    reply, _ = any_reply(rng)
+    what = ALL if turn % 2 else 0
+    return joined(bytes([what, what, turn % 2, 1]), reply.secret or b"", reply.request or b"", reply.reply or b"")
+
+
+def any_call(rng):
+    """Four bytes, as tests/fuzz/scheduler.c reads them: mostly openings and runs of steps."""
+    kind = rng.choices([0, 2, 4, 5, 6, 7], [6, 12, 1, 2, 2, 2])[0]
+    if kind == 0:
+        return bytes([kind, rng.randrange(4), 2, rng.choice([0, 0, 44, 45])])
+    return bytes([kind, rng.randrange(8), rng.choice([0, 0, 1, 2, 5, 70]), rng.randrange(100)])
+
+
+def scheduler(rng, turn):
+    gate, table = any_gate(rng), rng.choice([table for table, _ in HOUSES if len(table) <= SMALL])
+    desk = Desk(table, Gate(*gate))
+    packets = [posted(rng, desk, 10**9)[:400] for _ in range(4)]
+    calls = b"".join(any_call(rng) for _ in range(rng.choice([8, 16, 32])))
+    settings = table_numbers(table) + gate.address.to_bytes(4, "big") + bytes([turn % 4 == 3]) + bytes([63] * 4) + b"store"
+    return joined(settings, gate.secret, gate.name, table, calls, *packets)
+
+
+def dictionary():
+    """Attributes for the fuzzer to put in, one of each type that a request may have, and some."""
+    sizes = {4: 4, 5: 4, 8: 4, 27: 4, 28: 4, 55: 4, 6: 4, 101: 4, 80: 16}
+    for kind in [1, 4, 5, 6, 8, 11, 24, 27, 28, 31, 32, 33, 44, 55, 80, 26, 101]:
+        for size in {sizes.get(kind, 3), 0}:
+            yield '"%s"\n' % "".join(f"\\x{byte:02X}" for byte in attribute(kind, bytes(size)))
+
+
+def main(to):
+    for draft in (handle, write, check_reply, scheduler):
+        folder = to / draft.__name__
+        folder.mkdir(parents=True, exist_ok=True)
+        for turn in range(COUNT):
+            (folder / str(turn)).write_bytes(draft(seeded("fuzz", draft.__name__, turn), turn))
+    (to / "dictionary").write_text("".join(dictionary()))
+
+
+main(pathlib.Path(sys.argv[1]))
