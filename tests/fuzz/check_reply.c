@@ -34,7 +34,7 @@ static void run(const struct call *c, uint32_t answer, enum side side)
     uint8_t *p = lay(&request, c->request, c->request_len, side, c->null);
     uint8_t *r = lay(&reply, c->reply, c->reply_len, side, c->null);
     uint32_t got = fbk_check_reply(s, c->secret.size, p, c->request_len, r, c->reply_len);
-    expect(got == answer, "the answer");
+    expect_answer(got, answer, "the answer");
     expect_room(&secret, "the secret was written to");
     expect_room(&request, "the request was written to");
     expect_room(&reply, "the reply was written to");

@@ -12,7 +12,7 @@ int desk_make(struct desk *d, const struct gate *g)
 {
     uint32_t wanted = g->secret.size < 1 || g->secret.size > 64 ? 2 : g->name.size < 1 || g->name.size > 32 ? 3 : 0;
     d->gate = *g;
-    expect(fbk_make(&d->s, g->secret.at, g->secret.size, g->address, g->name.at, g->name.size) == wanted, "the answer to making");
+    expect_answer(fbk_make(&d->s, g->secret.at, g->secret.size, g->address, g->name.at, g->name.size), wanted, "the answer to making");
     return wanted == 0;
 }
 
@@ -39,7 +39,7 @@ void desk_open(struct desk *d, const uint8_t *packet, size_t size, uint32_t cloc
     uint32_t free = lowest_free(d), job = 77;
     uint32_t wanted = store_len != FBK_STORE_SIZE ? 5 : free == FBK_JOBS ? 6 : bad_form(packet, size, &f);
     uint32_t answer = fbk_open(&d->s, lay(&lent, packet, size, AT_END, 1), size, clock, d->store.at, store_len, &job);
-    expect(answer == wanted, "the answer to opening");
+    expect_answer(answer, wanted, "the answer to opening");
     expect(job == (wanted == 0 ? free : 77), "the job's number");
     if (wanted == 0) {
         struct note *n = &d->notes[free];
@@ -105,7 +105,7 @@ void desk_step(struct desk *d, uint32_t job, size_t reply_size, size_t store_len
 void desk_drop(struct desk *d, uint32_t job)
 {
     int open = job < FBK_JOBS && d->notes[job].open;
-    expect(fbk_drop(&d->s, job) == (open ? 0 : 7), "the answer to dropping");
+    expect_answer(fbk_drop(&d->s, job), open ? 0 : 7, "the answer to dropping");
     if (open)
         d->notes[job].open = 0;
 }
@@ -119,7 +119,7 @@ void desk_start(struct desk *d, const struct session *one)
         t[k] = lay(&texts[k], one->texts[k].at, one->texts[k].size, AT_END, 1);
     uint32_t answer = fbk_start(&d->s, d->table.at, d->table_len, one->numbers[0], one->numbers[1], one->numbers[2], one->numbers[3], t[0],
                                 one->texts[0].size, t[1], one->texts[1].size, t[2], one->texts[2].size, t[3], one->texts[3].size, &slot);
-    expect(answer == start_session(d->table.wanted, d->table_len, one, &wanted_slot), "the answer to starting");
+    expect_answer(answer, start_session(d->table.wanted, d->table_len, one, &wanted_slot), "the answer to starting");
     expect(slot == wanted_slot, "the slot's number");
     for (int k = 0; k < 4; k++)
         expect_room(&texts[k], "a text was written to");
@@ -129,6 +129,6 @@ void desk_start(struct desk *d, const struct session *one)
 void desk_end(struct desk *d, uint32_t slot)
 {
     uint32_t answer = fbk_end(&d->s, d->table.at, d->table_len, slot);
-    expect(answer == end_session(d->table.wanted, d->table_len, slot), "the answer to ending");
+    expect_answer(answer, end_session(d->table.wanted, d->table_len, slot), "the answer to ending");
     expect_lent(d);
 }

@@ -1,9 +1,30 @@
 #include "harness.h"
 
+#include <stdio.h>
+#include <stdlib.h>
 #include <string.h>
 
 static const struct numbers unwritten = {-0x1122334455667788, 0xEEEEEEEE, 0xDDDDDDDD, 0xCCCCCCCC, 0};
 static struct room numbers;
+static unsigned long answers[1000];
+
+static void print_answers(void)
+{
+    fputs("answers:", stderr);
+    for (int k = 0; k < 1000; k++)
+        if (answers[k] > 0)
+            fprintf(stderr, " %d(%lu)", k, answers[k]);
+    fputs("\n", stderr);
+}
+
+void expect_answer(uint32_t answer, uint32_t wanted, const char *wrong)
+{
+    static int counting;
+    if (!counting)
+        counting = atexit(print_answers) == 0;
+    expect(answer == wanted, wrong);
+    answers[answer % 1000]++;
+}
 
 size_t buffer_size(uint32_t drawn)
 {
@@ -37,7 +58,7 @@ struct numbers *lay_numbers(enum side side)
 void expect_told(uint32_t answer, const struct told *wanted)
 {
     struct numbers after = {wanted->skew, wanted->changed, wanted->reply_len, wanted->stamped, 0};
-    expect(answer == wanted->answer, "the answer");
+    expect_answer(answer, wanted->answer, "the answer");
     must_become(&numbers, is_refused(wanted) ? &unwritten : &after);
     expect_room(&numbers, "the numbers");
 }

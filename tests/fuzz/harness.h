@@ -34,6 +34,9 @@ size_t copy_packet(uint8_t *p, struct bytes part);
 int is_refused(const struct told *t);
 int is_reply(const struct told *t);
 
+/* As expect; at the end of the process it is told how often each answer was given. */
+void expect_answer(uint32_t answer, uint32_t wanted, const char *wrong);
+
 /* The four numbers of a call, at a fence, before it; and after it beside what the model tells. */
 struct numbers *lay_numbers(enum side side);
 void expect_told(uint32_t answer, const struct told *wanted);

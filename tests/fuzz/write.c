@@ -52,7 +52,7 @@ static void run(const struct call *c, uint32_t answer, const uint8_t *wanted, ui
     must_become(&out, wanted);
     if (answer == 0)
         must_become(&length, &wanted_len);
-    expect(got == answer, "the answer");
+    expect_answer(got, answer, "the answer");
     expect_room(&out, "the output");
     expect_room(&length, "the output's length");
     expect_room(&area, "the attributes were written to");

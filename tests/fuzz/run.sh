@@ -1,0 +1,70 @@
+#!/bin/sh
+# `make fuzz`: libFuzzer on the library's calls, FUZZ_SECONDS in all (300). run.sh COUNTED SHIPPED takes these archives (build.sh).
+# Its last line is 'N passed, 0 failed'. An input that is answered wrongly is kept, and named with the command that runs it again.
+set -u
+cd "$(dirname "$0")/../.." || exit 1
+room=target/fuzz
+seconds=${FUZZ_SECONDS:-300}
+tests/fuzz/tools.sh || exit 1
+mkdir -p $room/findings
+tests/fuzz/build.sh "$@" >$room/build.log 2>&1 || { cat $room/build.log; echo 'fuzz: not built' >&2; exit 1; }
+python3 tests/fuzz/seeds.py $room/seeds || exit 1
+
+passed=0 failed=0
+count() { # STATUS WHAT
+    if [ "$1" -eq 0 ]; then
+        passed=$((passed + 1))
+    else
+        failed=$((failed + 1))
+        echo "FAILED: $2"
+    fi
+}
+
+# Runs a program on its corpus and its seeds; says what is wrong and where the input is, where there is a finding.
+run() { # PROGRAM LOG WORDS...
+    program=$1 log=$2
+    shift 2
+    "$room/$program" "$@" -max_len=20000 -timeout=10 -artifact_prefix="$room/findings/$program-" \
+        "$room/corpus/${program%-shipped}" "$room/seeds/${program%-shipped}" >"$log" 2>&1 && return
+    grep -E '^fuzz: wrong|ERROR: ' "$log"
+    sed -n "s,^.*Test unit written to \(.*\),    again with: $room/$program \1,p" "$log"
+    return 1
+}
+
+# Whether each of these answers was given at least once: what is not reached is not tested.
+seen() { # LOG ANSWER...
+    told=$(grep '^answers:' "$1")
+    shift
+    for answer in "$@"; do
+        case $told in *" $answer("*) ;; *) echo "    never answered: $answer"; return 1 ;; esac
+    done
+}
+
+fuzzed() { # PROGRAM ANSWER...
+    name=$1 log=$room/$1.log
+    shift
+    mkdir -p "$room/corpus/$name"
+    run "$name" "$log" -max_total_time=$((seconds / 4)) -dict=$room/seeds/dictionary -print_final_stats=1
+    found=$?
+    runs=$(sed -n 's/^stat::number_of_executed_units: *//p' "$log")
+    reached=$(sed -n 's/^#.* cov: \([0-9]*\) .*/\1/p' "$log" | tail -n 1)
+    places=$(sed -n 's/^INFO: Loaded .* PC tables (\([0-9]*\) PCs).*/\1/p' "$log")
+    echo "$name: ${runs:-?} runs, corpus $(find "$room/corpus/$name" -type f | wc -l), $reached of $places branches reached, $found findings"
+    sed -n 's/^answers:/    answers (how often):/p' "$log"
+    count $found "$name has a finding"
+    [ $found -ne 0 ] || { seen "$log" "$@"; count $? "$name does not reach every answer"; }
+    run "$name-shipped" "$room/$name-shipped.log" -runs=0
+    count $? "$name has a finding with the archive as it is handed over"
+}
+
+echo '== the programs can fail'
+tests/fuzz/self_test.sh >$room/self_test.log
+count $? 'the programs do not find all that is wrong'
+cat $room/self_test.log
+echo "== $seconds seconds of fuzzing"
+fuzzed handle 0 1 2 3 4 101 102 103 104 105 106 401 402 403 404 405 503 506
+fuzzed write 0 2 4 12 13
+fuzzed check_reply 0 2 201 202 203 204 205 206
+fuzzed scheduler 0 1 2 3 4 5 6 7 8 9 10 11 101 102 103 104 105 106 401 402 403 404 405 503 506 600
+echo "$passed passed, $failed failed"
+[ "$failed" -eq 0 ]
