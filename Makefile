@@ -1,5 +1,5 @@
 # What this repository does. The work is in the scripts under tests/, bench/, include/ and samples/host/.
-.PHONY: demo test bench record install uninstall host interop
+.PHONY: demo test bench record install uninstall host interop fuzz ct
 
 # where the library goes; DESTDIR, put before it, is for packages
 PREFIX = /usr/local
@@ -36,3 +36,11 @@ host:
 # real RADIUS clients against that host, and our requests against a real server; installs what it needs
 interop:
 	@tests/interop/run.sh
+
+# mutated packets and lists of calls beside a second implementation in C, for FUZZ_SECONDS (300)
+fuzz:
+	@tests/fuzz/run.sh
+
+# valgrind: no branch and no address depends on the secret, but for the verdicts
+ct:
+	@tests/ct/run.sh

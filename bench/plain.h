@@ -1,4 +1,4 @@
-/* MD5 and HMAC-MD5 as one writes them in C from the RFCs: what the benchmark compares with, never linked elsewhere. */
+/* MD5 and HMAC-MD5 as one writes them in C from the RFCs: what the benchmark compares with and tests sign with, never a part of the library. */
 #include <stddef.h>
 #include <stdint.h>
 

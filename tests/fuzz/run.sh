@@ -5,6 +5,7 @@ set -u
 cd "$(dirname "$0")/../.." || exit 1
 room=target/fuzz
 seconds=${FUZZ_SECONDS:-300}
+[ "$seconds" -ge 4 ] || { echo 'fuzz: FUZZ_SECONDS is a number, 4 or more' >&2; exit 1; }
 tests/fuzz/tools.sh || exit 1
 mkdir -p $room/findings
 tests/fuzz/build.sh "$@" >$room/build.log 2>&1 || { cat $room/build.log; echo 'fuzz: not built' >&2; exit 1; }
