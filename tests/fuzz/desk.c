@@ -80,7 +80,7 @@ static struct told any_told(struct desk *d, const uint8_t *part, uint32_t answer
     return t;
 }
 
-void desk_step(struct desk *d, uint32_t job, size_t reply_size, size_t store_len)
+uint32_t desk_step(struct desk *d, uint32_t job, size_t reply_size, size_t store_len)
 {
     static struct room reply;
     uint8_t *r = lay(&reply, d->fill, reply_size, AT_END, 1);
@@ -100,6 +100,7 @@ void desk_step(struct desk *d, uint32_t job, size_t reply_size, size_t store_len
     expect_told(answer, &wanted);
     expect_room(&reply, "the reply");
     expect_lent(d);
+    return answer;
 }
 
 void desk_drop(struct desk *d, uint32_t job)

@@ -1,4 +1,5 @@
-/* Calls on a scheduler, each beside the model: document 01's book for demand 3, which handles a request whole at the step that finished it. */
+/* Calls on a scheduler, each beside the model. It is document 01's book for demand 3: a request is handled whole at the step that
+   finished it, with the packet and the clock of its opening. */
 #ifndef DESK_H
 #define DESK_H
 
@@ -25,7 +26,7 @@ struct desk {
 int desk_make(struct desk *d, const struct gate *g);
 
 void desk_open(struct desk *d, const uint8_t *packet, size_t size, uint32_t clock, size_t store_len);
-void desk_step(struct desk *d, uint32_t job, size_t reply_size, size_t store_len);
+uint32_t desk_step(struct desk *d, uint32_t job, size_t reply_size, size_t store_len); /* the answer */
 void desk_drop(struct desk *d, uint32_t job);
 void desk_start(struct desk *d, const struct session *one);
 void desk_end(struct desk *d, uint32_t slot);

@@ -15,7 +15,8 @@ static int is_unfit(struct bytes area, uint32_t add)
     return 0;
 }
 
-uint32_t written(uint32_t code, uint8_t identifier, struct bytes area, uint32_t add, struct bytes secret, uint8_t *out, size_t out_size, uint32_t *out_len)
+uint32_t written(uint32_t code, uint8_t identifier, struct bytes area, uint32_t add, struct bytes secret, uint8_t *out, size_t out_size,
+                 uint32_t *out_len)
 {
     if (secret.size < 1 || secret.size > 64)
         return 2;

@@ -10,7 +10,7 @@ struct call {
     uint8_t table[MOST_TABLE], reply[MOST_BUFFER], packet[MOST_PACKET];
     size_t table_len, reply_size, packet_len;
     uint32_t clock;
-    int null;
+    int null, table_first;
 };
 
 struct outcome {
@@ -25,7 +25,9 @@ static void draft(struct call *c, const struct bytes parts[])
     uint32_t slots = take(&settings, 1), other = take(&settings, 2);
     c->table_len = table_size(slots, other);
     c->reply_size = buffer_size(take(&settings, 1));
-    c->null = take(&settings, 1) & 1;
+    uint32_t more = take(&settings, 1);
+    c->null = more & 1;
+    c->table_first = more >> 1 & 1;
     c->gate = (struct gate){short_of(parts[1], 80), short_of(parts[2], 40), take(&settings, 4)};
     uint32_t clock = take(&settings, 4);
     repeat(c->table, c->table_len, parts[3]);
@@ -47,11 +49,16 @@ static void work_out(const struct call *c, struct outcome *o)
 static void run(const struct call *c, const struct outcome *o, enum side side)
 {
     static struct room table, secret, name, reply, packet;
-    uint8_t *t = lay(&table, c->table, c->table_len, side, c->null);
+    begin_near();
     uint8_t *s = lay(&secret, c->gate.secret.at, c->gate.secret.size, side, c->null);
     uint8_t *n = lay(&name, c->gate.name.at, c->gate.name.size, side, c->null);
-    uint8_t *r = lay(&reply, c->reply, c->reply_size, side, c->null);
     uint8_t *p = lay(&packet, c->packet, c->packet_len, side, c->null);
+    if (c->table_first)
+        lay(&table, c->table, c->table_len, side, 0);
+    uint8_t *r = lay(&reply, c->reply, c->reply_size, side, c->null);
+    if (!c->table_first)
+        lay(&table, c->table, c->table_len, side, 0);
+    uint8_t *t = c->table_len == 0 && c->null ? NULL : table.at;
     struct numbers *to = lay_numbers(side);
     uint32_t answer = fbk_handle(t, c->table_len, s, c->gate.secret.size, c->gate.address, n, c->gate.name.size, r, c->reply_size, p, c->packet_len,
                             c->clock, &to->changed, &to->reply_len, &to->skew, &to->stamped);
@@ -77,5 +84,6 @@ int LLVMFuzzerTestOneInput(const uint8_t *data, size_t size)
     work_out(&c, &o);
     run(&c, &o, AT_END);
     run(&c, &o, AT_START);
+    run(&c, &o, NEAR);
     return 0;
 }

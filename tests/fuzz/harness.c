@@ -52,7 +52,7 @@ int is_reply(const struct told *t) { return t->answer == 0 || (t->answer > 400 &
 
 struct numbers *lay_numbers(enum side side)
 {
-    return (struct numbers *)lay(&numbers, &unwritten, sizeof unwritten, side, 0);
+    return (struct numbers *)lay(&numbers, &unwritten, sizeof unwritten, side == NEAR ? AT_END : side, 0); /* they are aligned */
 }
 
 void expect_told(uint32_t answer, const struct told *wanted)

@@ -66,7 +66,8 @@ uint32_t end_session(uint8_t *table, size_t table_len, uint32_t slot);
 
 /* The calls: each writes what the library must write. */
 struct told handled(const struct gate *g, uint8_t *table, size_t table_len, uint8_t *reply, size_t reply_size, struct bytes packet, uint32_t clock);
-uint32_t written(uint32_t code, uint8_t identifier, struct bytes area, uint32_t add, struct bytes secret, uint8_t *out, size_t out_size, uint32_t *out_len);
+uint32_t written(uint32_t code, uint8_t identifier, struct bytes area, uint32_t add, struct bytes secret, uint8_t *out, size_t out_size,
+                 uint32_t *out_len);
 uint32_t checked(struct bytes secret, struct bytes request, struct bytes reply);
 
 #endif

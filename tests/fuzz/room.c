@@ -10,6 +10,8 @@
 #define GUARD 64 /* bytes */
 #define MARK 0xA5
 
+static uint8_t near[8 * ROOM_MOST], *near_end = near; /* behind the last that is laid NEAR */
+
 void expect(int is_so, const char *wrong)
 {
     if (is_so)
@@ -28,15 +30,31 @@ static void build(struct room *r)
     memset(r->pages, MARK, ROOM_MOST);
 }
 
+void begin_near(void)
+{
+    near_end = near;
+}
+
+static uint8_t *place(const struct room *r, size_t size, enum side side)
+{
+    if (side != NEAR)
+        return side == AT_END ? r->pages + ROOM_MOST - size : r->pages;
+    near_end += size;
+    expect(near_end <= near + sizeof near - GUARD, "the test's own: too much is near");
+    memset(near_end, MARK, GUARD);
+    return near_end - size;
+}
+
 uint8_t *lay(struct room *r, const void *bytes, size_t size, enum side side, int null)
 {
     if (r->pages == NULL)
         build(r);
     expect(size <= ROOM_MOST - GUARD, "the test's own: too much for a room");
-    if (r->size > 0)
+    if (r->size > 0 && !r->is_near)
         memset(r->at, MARK, r->size); /* what lay there is a guard now */
     r->size = size;
-    r->at = side == AT_END ? r->pages + ROOM_MOST - size : r->pages;
+    r->is_near = side == NEAR;
+    r->at = place(r, size, side);
     if (size > 0)
         memcpy(r->at, bytes, size);
     must_become(r, bytes);
@@ -52,7 +70,7 @@ void must_become(struct room *r, const void *bytes)
 void expect_room(const struct room *r, const char *name)
 {
     int kept = memcmp(r->at, r->wanted, r->size) == 0;
-    const uint8_t *guard = r->at == r->pages ? r->at + r->size : r->at - GUARD;
+    const uint8_t *guard = r->is_near ? near_end : r->at == r->pages ? r->at + r->size : r->at - GUARD;
     for (size_t k = 0; k < GUARD; k++)
         kept &= guard[k] == MARK;
     expect(kept, name);

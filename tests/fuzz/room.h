@@ -11,13 +11,19 @@ struct room {
     uint8_t *pages;    /* between the fences */
     uint8_t *at;       /* the bytes that are lent */
     size_t size;
+    int is_near;
     uint8_t wanted[ROOM_MOST]; /* the same bytes as they must be */
 };
 
-enum side { AT_END, AT_START }; /* the fence that the bytes touch; at their other side stand guard bytes */
+/* The fence that the bytes touch; at their other side stand guard bytes. NEAR: no fence, but each run right behind the one that was
+   laid before it, since compiled code may go another way where what it reads is less than 32 bytes before what it writes. */
+enum side { AT_END, AT_START, NEAR };
 
 /* Lends a copy of the bytes; NULL where there are none and null is asked for. */
 uint8_t *lay(struct room *r, const void *bytes, size_t size, enum side side, int null);
+
+/* The next that is laid NEAR has nothing before it. */
+void begin_near(void);
 
 /* What a call must make of them. */
 void must_become(struct room *r, const void *bytes);

@@ -1,6 +1,14 @@
 #!/bin/sh
 # `make fuzz`: libFuzzer on the library's calls, FUZZ_SECONDS in all (300). run.sh COUNTED SHIPPED takes these archives (build.sh).
 # Its last line is 'N passed, 0 failed'. An input that is answered wrongly is kept, and named with the command that runs it again.
+#
+#   handle.c write.c check_reply.c scheduler.c   a program each: an input becomes calls, and what they tell and write is held beside the model
+#   *_model.c, model.h     the second implementation, from document 01; it works out every byte that a call must write
+#   parts.c, mend.c        an input as parts; a mutated packet put right (Length, signatures ..), so that it gets past the first rules
+#   room.c                 memory with fences and guard bytes
+#   seeds.py               inputs to start from; what is found on the way is kept in target/fuzz/corpus, and later runs go on from there
+#   wrong_*.c, self_test.sh   the library with something wrong in it: the programs must find it
+#   kit.sh, build.sh       how the fuzzer sees which branches the library takes
 set -u
 cd "$(dirname "$0")/../.." || exit 1
 room=target/fuzz

@@ -25,16 +25,14 @@ static void open_one(struct desk *d, const struct list *l, const uint8_t *call)
     desk_open(d, packet, size, clock, call[1] < 250 ? FBK_STORE_SIZE : FBK_STORE_SIZE - 1);
 }
 
-/* Up to 256 steps of one job. */
+/* Up to 256 steps of one job, as long as it goes on. */
 static void step_some(struct desk *d, const uint8_t *call)
 {
     uint32_t job = call[1] < 250 ? call[1] % FBK_JOBS : call[1] * 0x1000001u;
     size_t room = call[3] < 240 ? 4096 : buffer_size(call[3]), store_len = FBK_STORE_SIZE - (call[3] == 239);
-    for (int times = call[2]; times >= 0; times--) {
-        desk_step(d, job, room, store_len);
-        if (job >= FBK_JOBS || !d->notes[job].open)
+    for (int times = call[2]; times >= 0; times--)
+        if (desk_step(d, job, room, store_len) != 600)
             return;
-    }
 }
 
 /* A session that a slot's bytes describe, with an Acct-Session-Id that is its own, and now and then a text of another length. */

@@ -49,7 +49,7 @@ def handle(rng, turn):
     call = draft.call()
     what, clock = (ALL, 512) if turn % 2 else (0, call.clock)
     table = call.table or b""
-    settings = bytes([what]) + table_numbers(table) + buffer_number(len(call.reply or b"")) + b"\1"
+    settings = bytes([what]) + table_numbers(table) + buffer_number(len(call.reply or b"")) + bytes([1 + 2 * (turn % 5 > 2)])
     settings += call.address.to_bytes(4, "big") + clock.to_bytes(4, "big") + b"reply"
     return joined(settings, call.secret or b"", call.name or b"", table[:SMALL], (call.packet or b"")[:600])
 

@@ -44,10 +44,11 @@ static void run(const struct call *c, uint32_t answer, const uint8_t *wanted, ui
 {
     static struct room area, secret, out, length;
     uint32_t before = 0xEEEEEEEE;
-    uint8_t *a = lay(&area, c->area, c->area_len, side, c->null);
+    begin_near();
     uint8_t *s = lay(&secret, c->secret.at, c->secret.size, side, c->null);
+    uint8_t *a = lay(&area, c->area, c->area_len, side, c->null);
     uint8_t *o = lay(&out, c->out, c->out_size, side, c->null);
-    uint32_t *n = (uint32_t *)lay(&length, &before, sizeof before, side, 0);
+    uint32_t *n = (uint32_t *)lay(&length, &before, sizeof before, side == NEAR ? AT_END : side, 0);
     uint32_t got = fbk_write(c->code, c->identifier, a, c->area_len, c->add, s, c->secret.size, o, c->out_size, n);
     must_become(&out, wanted);
     if (answer == 0)
@@ -72,5 +73,6 @@ int LLVMFuzzerTestOneInput(const uint8_t *data, size_t size)
     uint32_t answer = written(c.code, c.identifier, (struct bytes){c.area, c.area_len}, c.add, c.secret, wanted, c.out_size, &wanted_len);
     run(&c, answer, wanted, wanted_len, AT_END);
     run(&c, answer, wanted, wanted_len, AT_START);
+    run(&c, answer, wanted, wanted_len, NEAR);
     return 0;
 }

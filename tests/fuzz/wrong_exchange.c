@@ -36,7 +36,8 @@ static int is_nearly_signed(const uint8_t *request, const uint8_t *reply, struct
     return memcmp(reply + 4, right, 15) == 0;
 }
 
-uint32_t __wrap_fbk_check_reply(const uint8_t *secret, size_t secret_len, const uint8_t *request, size_t request_len, const uint8_t *reply, size_t reply_len)
+uint32_t __wrap_fbk_check_reply(const uint8_t *secret, size_t secret_len, const uint8_t *request, size_t request_len, const uint8_t *reply,
+                                size_t reply_len)
 {
     uint32_t answer = __real_fbk_check_reply(secret, secret_len, request, request_len, reply, reply_len);
     if (is_wrong("takes_any_mac") && answer == 206)
