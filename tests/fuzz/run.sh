@@ -58,7 +58,7 @@ fuzzed() { # PROGRAM ANSWER...
     runs=$(sed -n 's/^stat::number_of_executed_units: *//p' "$log")
     reached=$(sed -n 's/^#.* cov: \([0-9]*\) .*/\1/p' "$log" | tail -n 1)
     places=$(sed -n 's/^INFO: Loaded .* PC tables (\([0-9]*\) PCs).*/\1/p' "$log")
-    echo "$name: ${runs:-?} runs, corpus $(find "$room/corpus/$name" -type f | wc -l), $reached of $places branches reached, $found findings"
+    echo "$name: ${runs:-?} runs, corpus $(find "$room/corpus/$name" -type f | wc -l), ${reached:-?} of ${places:-?} branches reached, $found findings"
     sed -n 's/^answers:/    answers (how often):/p' "$log"
     count $found "$name has a finding"
     [ $found -ne 0 ] || { seen "$log" "$@"; count $? "$name does not reach every answer"; }

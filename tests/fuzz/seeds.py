@@ -16,6 +16,7 @@ from table_samples import seeded  # noqa: E402
 COUNT = 120  # of each program's inputs
 SMALL = 4 * 192  # a table of more bytes would be what is mutated most
 ALL = 127  # everything is mended
+CLOCKS = [512, 512, 212, 812, 211, 813]  # mended: the stamp 0, 300 and 301 seconds from it either way
 BUFFERS = [4096, 4096, 4096, 4096, 4096, 4096, 4096, 4097, 4099, 5000, 0, 1, 20, 2048, 4095, 4095]  # as in harness.c
 
 
@@ -47,7 +48,7 @@ def handle(rng, turn):
     if turn % 3:
         FAULTS[turn // 3 % len(FAULTS)][1](draft)
     call = draft.call()
-    what, clock = (ALL, 512) if turn % 2 else (0, call.clock)
+    what, clock = (ALL, CLOCKS[turn // 2 % len(CLOCKS)]) if turn % 2 else (0, call.clock)
     table = call.table or b""
     settings = bytes([what]) + table_numbers(table) + buffer_number(len(call.reply or b"")) + bytes([1 + 2 * (turn % 5 > 2)])
     settings += call.address.to_bytes(4, "big") + clock.to_bytes(4, "big") + b"reply"

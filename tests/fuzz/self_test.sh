@@ -33,7 +33,7 @@ found() { # PROGRAM NAME...
 }
 
 found handle makes_up_the_count leaves_the_table changes_the_first_match keeps_16_bits clears_the_end_of_a_slot signs_over_zeros \
-    writes_behind_the_reply asks_506_last turns_the_skew takes_301_seconds writes_numbers_when_refused writes_before_the_table \
+    writes_behind_the_reply asks_503_before_506 turns_the_skew takes_301_seconds writes_numbers_when_refused writes_before_the_table \
     reads_behind_the_packet remembers
 found write keeps_8_bits_of_the_code adds_only_for_1 writes_a_length_when_refused clears_the_rest
 found check_reply takes_any_mac takes_any_authenticator takes_any_code asks_the_identifier_first

@@ -59,7 +59,7 @@ static void writes_behind_the_reply(struct call *c)
         c->reply[*c->reply_len] ^= 1;
 }
 
-static void asks_506_last(struct call *c) { c->answer = c->answer == 506 && c->slots > 2 ? 503 : c->answer; }
+static void asks_503_before_506(struct call *c) { c->answer = c->answer == 506 ? 503 : c->answer; }
 
 static void turns_the_skew(struct call *c) { *c->skew = c->answer < 1 || c->answer > 99 ? -*c->skew : *c->skew; }
 
@@ -101,7 +101,7 @@ static const struct { const char *name; void (*spoil)(struct call *); } wrongs[]
     {"clears_the_end_of_a_slot", clears_the_end_of_a_slot},
     {"signs_over_zeros", signs_over_zeros},
     {"writes_behind_the_reply", writes_behind_the_reply},
-    {"asks_506_last", asks_506_last},
+    {"asks_503_before_506", asks_503_before_506},
     {"turns_the_skew", turns_the_skew},
     {"takes_301_seconds", takes_301_seconds},
     {"writes_numbers_when_refused", writes_numbers_when_refused},
