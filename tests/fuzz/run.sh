@@ -16,6 +16,7 @@ seconds=${FUZZ_SECONDS:-300}
 [ "$seconds" -ge 4 ] || { echo 'fuzz: FUZZ_SECONDS is a number, 4 or more' >&2; exit 1; }
 tests/fuzz/tools.sh || exit 1
 mkdir -p $room/findings
+echo 'fuzz: builds the library twice, proofs included; from nothing they take some minutes'
 tests/fuzz/build.sh "$@" >$room/build.log 2>&1 || { cat $room/build.log; echo 'fuzz: not built' >&2; exit 1; }
 python3 tests/fuzz/seeds.py $room/seeds || exit 1
 
@@ -33,7 +34,7 @@ count() { # STATUS WHAT
 run() { # PROGRAM LOG WORDS...
     program=$1 log=$2
     shift 2
-    "$room/$program" "$@" -max_len=20000 -timeout=10 -artifact_prefix="$room/findings/$program-" \
+    "$room/$program" "$@" -max_len=10000 -timeout=10 -artifact_prefix="$room/findings/$program-" \
         "$room/corpus/${program%-shipped}" "$room/seeds/${program%-shipped}" >"$log" 2>&1 && return
     grep -E '^fuzz: wrong|ERROR: ' "$log"
     sed -n "s,^.*Test unit written to \(.*\),    again with: $room/$program \1,p" "$log"

@@ -42,11 +42,19 @@ def small_draft(rng):
             return draft
 
 
+def end_with_state(draft):
+    """A few bytes to be copied, that lie close before the reply where buffers lie close together."""
+    draft.without(24)
+    draft.tail, draft.padding = attribute(24, b"state"), b""
+
+
 def handle(rng, turn):
     """A call with none or one of the faults. Every other is mended, which the draft's packet needs not until it is mutated."""
     draft = small_draft(rng)
     if turn % 3:
         FAULTS[turn // 3 % len(FAULTS)][1](draft)
+    if turn % 8 == 0:
+        end_with_state(draft)
     call = draft.call()
     what, clock = (ALL, CLOCKS[turn // 2 % len(CLOCKS)]) if turn % 2 else (0, call.clock)
     table = call.table or b""
@@ -91,7 +99,7 @@ def dictionary():
     """Attributes for the fuzzer to put in, one of each type that a request may have, and some."""
     sizes = {4: 4, 5: 4, 8: 4, 27: 4, 28: 4, 55: 4, 6: 4, 101: 4, 80: 16}
     for kind in [1, 4, 5, 6, 8, 11, 24, 27, 28, 31, 32, 33, 44, 55, 80, 26, 101]:
-        for size in {sizes.get(kind, 3), 0}:
+        for size in {sizes.get(kind, 5), 0}:
             yield '"%s"\n' % "".join(f"\\x{byte:02X}" for byte in attribute(kind, bytes(size)))
 
 

@@ -12,7 +12,7 @@ tried() { # PROGRAM NAME FINDINGS WORDS...: so many inputs are kept as a finding
     shift 3
     rm -rf "${room:?}"/*
     mkdir "$room/corpus"
-    WRONG=$name "target/fuzz/$program-wrong" "$@" -max_len=20000 -dict=target/fuzz/seeds/dictionary -artifact_prefix="$room/" \
+    WRONG=$name "target/fuzz/$program-wrong" "$@" -max_len=10000 -dict=target/fuzz/seeds/dictionary -artifact_prefix="$room/" \
         "$room/corpus" "target/fuzz/seeds/$program" >"$room/log" 2>&1
     status=$?
     kept=$(find "$room" -name 'crash-*' | wc -l)
