@@ -1,4 +1,4 @@
-"""`make ct`: python3 tests/ct/run.py PROGRAM REPORT. Runs each subject under valgrind; only the verdicts' branches may be reported, once a call.
+"""`make ct`: python3 tests/ct/run.py PROGRAM REPORT. Each subject under valgrind: only the verdicts' branches are reported, once a call.
 
 The program's group and name say what is run; `verdicts` says which branches it must have. That a branch is D4's is seen by where it is
 reported: one alone, at one address, by every kind of request. D5's is the one that kinds with type 80 add, unless D4 ends them before.
@@ -13,9 +13,11 @@ ENDED_BY_FIRST = "of the authenticator"
 
 def verdicts(group, name):
     """The branches that a subject must have; none but for these."""
-    first, second = {"handle": ("D4", "D5"), "step": ("D4", "D5"), "check reply": ("V5", None), "wrong handle": ("D4", "D5")}.get(group, (None, None))
-    asked_again = second and " 80" in name and ENDED_BY_FIRST not in name
-    return ([first] if first else []) + ([second] if asked_again else [])
+    if group == "check reply":
+        return ["V5"]  # V6's is no branch: the answer is worked out from it
+    if group not in ("handle", "step", "wrong handle"):
+        return []
+    return ["D4", "D5"] if " 80" in name and ENDED_BY_FIRST not in name else ["D4"]
 
 
 def learnt(runs):
@@ -50,7 +52,8 @@ def main():
     known = learnt(runs)
     passed = failed = 0
     for (group, name), run in runs.items():
-        if run.calls > 0 and is_right(group, name, run, known) != is_wrong(group):
+        right = is_right(group, name, run, known)
+        if run.calls > 0 and (run.sites and not right if is_wrong(group) else right):
             passed += 1
         else:
             failed += 1

@@ -45,7 +45,7 @@ static void work_out(const struct call *c, struct outcome *o)
     o->told = handled(&c->gate, o->table, c->table_len, o->reply, c->reply_size, (struct bytes){c->packet, c->packet_len}, c->clock);
 }
 
-/* The library's turn, with all that it is lent at one of the fences. */
+/* The library's turn, with all that it is lent at one of the fences, or close together. */
 static void run(const struct call *c, const struct outcome *o, enum side side)
 {
     static struct room table, secret, name, reply, packet;
@@ -60,8 +60,8 @@ static void run(const struct call *c, const struct outcome *o, enum side side)
         lay(&table, c->table, c->table_len, side, 0);
     uint8_t *t = c->table_len == 0 && c->null ? NULL : table.at;
     struct numbers *to = lay_numbers(side);
-    uint32_t answer = fbk_handle(t, c->table_len, s, c->gate.secret.size, c->gate.address, n, c->gate.name.size, r, c->reply_size, p, c->packet_len,
-                            c->clock, &to->changed, &to->reply_len, &to->skew, &to->stamped);
+    uint32_t answer = fbk_handle(t, c->table_len, s, c->gate.secret.size, c->gate.address, n, c->gate.name.size, r, c->reply_size, p,
+                                 c->packet_len, c->clock, &to->changed, &to->reply_len, &to->skew, &to->stamped);
     must_become(&table, o->table);
     must_become(&reply, o->reply);
     expect_told(answer, &o->told);
