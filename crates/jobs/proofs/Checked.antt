@@ -20,11 +20,16 @@ use Rattle.answers.specs.declared.Answer.the-variants as A
 use Rattle.handler.proofs.Fresh.{answered, nak-short}
 use Rattle.jobs.specs.declared.Job.{Job}
 use Rattle.jobs.specs.declared.Moved.{Moved}
+use Rattle.jobs.specs.declared.Ending.the-variants.{Done}
+use Rattle.jobs.specs.Job.{freeJob}
 use Rattle.chaining.specs.Words.{hashState}
 use Rattle.reread.specs.Reread.{holds}
 use Rattle.jobs.specs.Moves.{going, done, wordsSigned, checkedAs, checkMove, replyAfter}
 
 -- ---- the arms
+
+pub freed : (j : Job) (a : D.Answer) → j ≡ freeJob → record { job = j; ending = Done a } ≡ done a
+freed j a e = rw e
 
 module _ (j : Job) (q : List ℕ) (v : R.Verdict) (r : Moved) where
   pub arm-discarded : (d : ℕ) → v ≡ J.Discarded d → r ≡ done (A.Discarded d) → r ≡ checkedAs j q v

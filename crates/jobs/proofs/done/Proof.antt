@@ -1,11 +1,12 @@
 -- `jobs::done` meets its contract: the job is free.
 -- Assumes nothing.
 use borrow.Author.Needs.{needs}
+use Rattle.jobs.proofs.Checked.{freed}
 use Rattle.jobs.proofs.done.Statement.{statement}
 use Rattle.jobs.proofs.done.Tie as tie
 
 returns : tie.Need-returns
-returns c = rw (c .free .ensures)
+returns c = search (needs, freed)
 
 pub done-spec : {M : Type 1} → statement M
 done-spec = tie.close (tie.spec (λ c κs. search needs) returns)
