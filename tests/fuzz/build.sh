@@ -17,7 +17,7 @@ fi
 # The models are instrumented too: their branches are document 01's rules.
 linked() { # PROGRAM OUTPUT FILE...
     sources=tests/fuzz/$1.c
-    [ "$1" = scheduler ] && sources="$sources tests/fuzz/desk.c"
+    [ "$1" = scheduler ] && sources="$sources tests/fuzz/world.c"
     output=$2
     shift 2
     # shellcheck disable=SC2086 # one word to a source

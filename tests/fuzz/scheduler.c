@@ -1,5 +1,5 @@
 /* Lists of calls on a scheduler beside the model; with writes to table and store from outside, where the input asks for them. */
-#include "desk.h"
+#include "world.h"
 
 #include <string.h>
 
@@ -15,7 +15,7 @@ struct list {
     int with_outside_writes;
 };
 
-static void open_one(struct desk *d, const struct list *l, const uint8_t *call)
+static void open_one(struct world *d, const struct list *l, const uint8_t *call)
 {
     static uint8_t packet[MOST_PACKET];
     unsigned k = call[1] % 4;
@@ -26,7 +26,7 @@ static void open_one(struct desk *d, const struct list *l, const uint8_t *call)
 }
 
 /* Up to 256 steps of one job, as long as it goes on. */
-static void step_some(struct desk *d, const uint8_t *call)
+static void step_some(struct world *d, const uint8_t *call)
 {
     uint32_t job = call[1] < 250 ? call[1] % FBK_JOBS : call[1] * 0x1000001u;
     size_t room = call[3] < 240 ? 4096 : buffer_size(call[3]), store_len = FBK_STORE_SIZE - (call[3] == 239);
@@ -36,7 +36,7 @@ static void step_some(struct desk *d, const uint8_t *call)
 }
 
 /* A session that a slot's bytes describe, with an Acct-Session-Id that is its own, and now and then a text of another length. */
-static void start_one(struct desk *d, const struct list *l, const uint8_t *call)
+static void start_one(struct world *d, const struct list *l, const uint8_t *call)
 {
     static const size_t texts[4] = {18, 82, 115, 148};
     static uint8_t slot[FBK_SLOT_SIZE + 256];
@@ -54,7 +54,7 @@ static void start_one(struct desk *d, const struct list *l, const uint8_t *call)
 }
 
 /* A byte of the table or of an open job's part of the store; or the table with fewer or more slots. */
-static void write_from_outside(struct desk *d, const uint8_t *call)
+static void write_from_outside(struct world *d, const uint8_t *call)
 {
     size_t place = call[2] * 256u + call[3];
     struct room *to = call[1] & 1 ? &d->table : &d->store;
@@ -69,7 +69,7 @@ static void write_from_outside(struct desk *d, const uint8_t *call)
     }
 }
 
-static void call_one(struct desk *d, const struct list *l, const uint8_t *call)
+static void call_one(struct world *d, const struct list *l, const uint8_t *call)
 {
     switch (call[0] % 8) {
     case 0:
@@ -87,7 +87,7 @@ static void call_one(struct desk *d, const struct list *l, const uint8_t *call)
 }
 
 /* Steps of all open jobs in turn until they are finished: by the 912th, a lone one by the 132nd. */
-static void finish(struct desk *d)
+static void finish(struct world *d)
 {
     int least = desk_jobs(d) == 1 ? 132 : 912;
     for (int steps = 0; desk_jobs(d) > 0; steps++) {
@@ -99,7 +99,7 @@ static void finish(struct desk *d)
     }
 }
 
-static void draft(struct desk *d, struct list *l, const struct bytes parts[], struct gate *g)
+static void draft(struct world *d, struct list *l, const struct bytes parts[], struct gate *g)
 {
     static uint8_t table[MOST_TABLE], store[FBK_STORE_SIZE];
     struct bytes settings = parts[0];
@@ -122,7 +122,7 @@ static void draft(struct desk *d, struct list *l, const struct bytes parts[], st
 
 int LLVMFuzzerTestOneInput(const uint8_t *data, size_t size)
 {
-    static struct desk d;
+    static struct world d;
     struct list l;
     struct gate g;
     struct bytes parts[MOST_PARTS];

@@ -4,7 +4,7 @@ import sys
 
 sys.path.insert(0, str(pathlib.Path(__file__).parent.parent))
 
-from desk import Desk  # noqa: E402
+from world import World  # noqa: E402
 from drafts import HOUSES, Draft  # noqa: E402
 from exchange_drafts import any_asked, any_reply  # noqa: E402
 from faults import FAULTS  # noqa: E402
@@ -88,8 +88,8 @@ def any_call(rng):
 
 def scheduler(rng, turn):
     gate, table = any_gate(rng), rng.choice([table for table, _ in HOUSES if len(table) <= SMALL])
-    desk = Desk(table, Gate(*gate))
-    packets = [posted(rng, desk, 10**9)[:400] for _ in range(4)]
+    world = World(table, Gate(*gate))
+    packets = [posted(rng, world, 10**9)[:400] for _ in range(4)]
     calls = b"".join(any_call(rng) for _ in range(rng.choice([8, 16, 32])))
     settings = table_numbers(table) + gate.address.to_bytes(4, "big") + bytes([turn % 4 == 3]) + bytes([63] * 4) + b"store"
     return joined(settings, gate.secret, gate.name, table, calls, *packets)

@@ -1,7 +1,7 @@
 /* Calls on a scheduler, each beside the model. It is document 01's book for demand 3: a request is handled whole at the step that
    finished it, with the packet and the clock of its opening. */
-#ifndef DESK_H
-#define DESK_H
+#ifndef WORLD_H
+#define WORLD_H
 
 #include "harness.h"
 
@@ -12,7 +12,7 @@ struct note {
     uint32_t clock;
 };
 
-struct desk {
+struct world {
     fbk_scheduler s;
     struct gate gate;
     struct room table, store; /* lent to each call; `wanted` is what they must be */
@@ -23,14 +23,14 @@ struct desk {
 };
 
 /* Whether there is one: secret and name must fit. */
-int desk_make(struct desk *d, const struct gate *g);
+int desk_make(struct world *d, const struct gate *g);
 
-void desk_open(struct desk *d, const uint8_t *packet, size_t size, uint32_t clock, size_t store_len);
-uint32_t desk_step(struct desk *d, uint32_t job, size_t reply_size, size_t store_len); /* the answer */
-void desk_drop(struct desk *d, uint32_t job);
-void desk_start(struct desk *d, const struct session *one);
-void desk_end(struct desk *d, uint32_t slot);
+void desk_open(struct world *d, const uint8_t *packet, size_t size, uint32_t clock, size_t store_len);
+uint32_t desk_step(struct world *d, uint32_t job, size_t reply_size, size_t store_len); /* the answer */
+void desk_drop(struct world *d, uint32_t job);
+void desk_start(struct world *d, const struct session *one);
+void desk_end(struct world *d, uint32_t slot);
 
-int desk_jobs(const struct desk *d); /* how many are open */
+int desk_jobs(const struct world *d); /* how many are open */
 
 #endif

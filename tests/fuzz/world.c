@@ -1,14 +1,14 @@
-#include "desk.h"
+#include "world.h"
 
 #include <string.h>
 
-static void expect_lent(const struct desk *d)
+static void expect_lent(const struct world *d)
 {
     expect_room(&d->table, "the table");
     expect_room(&d->store, "the store");
 }
 
-int desk_make(struct desk *d, const struct gate *g)
+int desk_make(struct world *d, const struct gate *g)
 {
     uint32_t wanted = g->secret.size < 1 || g->secret.size > 64 ? 2 : g->name.size < 1 || g->name.size > 32 ? 3 : 0;
     d->gate = *g;
@@ -16,7 +16,7 @@ int desk_make(struct desk *d, const struct gate *g)
     return wanted == 0;
 }
 
-int desk_jobs(const struct desk *d)
+int desk_jobs(const struct world *d)
 {
     int open = 0;
     for (int k = 0; k < FBK_JOBS; k++)
@@ -24,7 +24,7 @@ int desk_jobs(const struct desk *d)
     return open;
 }
 
-static uint32_t lowest_free(const struct desk *d)
+static uint32_t lowest_free(const struct world *d)
 {
     uint32_t k = 0;
     while (k < FBK_JOBS && d->notes[k].open)
@@ -32,7 +32,7 @@ static uint32_t lowest_free(const struct desk *d)
     return k;
 }
 
-void desk_open(struct desk *d, const uint8_t *packet, size_t size, uint32_t clock, size_t store_len)
+void desk_open(struct world *d, const uint8_t *packet, size_t size, uint32_t clock, size_t store_len)
 {
     static struct room lent;
     static struct found f;
@@ -51,7 +51,7 @@ void desk_open(struct desk *d, const uint8_t *packet, size_t size, uint32_t cloc
     expect_lent(d);
 }
 
-static uint32_t step_refusal(const struct desk *d, uint32_t job, size_t reply_size, size_t store_len)
+static uint32_t step_refusal(const struct world *d, uint32_t job, size_t reply_size, size_t store_len)
 {
     if (slot_count(d->table_len) == 0)
         return 1;
@@ -63,7 +63,7 @@ static uint32_t step_refusal(const struct desk *d, uint32_t job, size_t reply_si
 }
 
 /* What must be told of a step that goes on or finishes, whatever was written to table and store; takes what it wrote as right. */
-static struct told any_told(struct desk *d, const uint8_t *part, uint32_t answer, const struct numbers *n, struct room *reply)
+static struct told any_told(struct world *d, const uint8_t *part, uint32_t answer, const struct numbers *n, struct room *reply)
 {
     struct told t = {answer, n->changed, n->reply_len, n->stamped, n->skew};
     expect(answer == 600 || answer == 101 || (answer >= 104 && answer <= 106) || is_reply(&t), "an answer that no step has");
@@ -80,7 +80,7 @@ static struct told any_told(struct desk *d, const uint8_t *part, uint32_t answer
     return t;
 }
 
-uint32_t desk_step(struct desk *d, uint32_t job, size_t reply_size, size_t store_len)
+uint32_t desk_step(struct world *d, uint32_t job, size_t reply_size, size_t store_len)
 {
     static struct room reply;
     uint8_t *r = lay(&reply, d->fill, reply_size, AT_END, 1);
@@ -103,7 +103,7 @@ uint32_t desk_step(struct desk *d, uint32_t job, size_t reply_size, size_t store
     return answer;
 }
 
-void desk_drop(struct desk *d, uint32_t job)
+void desk_drop(struct world *d, uint32_t job)
 {
     int open = job < FBK_JOBS && d->notes[job].open;
     expect_answer(fbk_drop(&d->s, job), open ? 0 : 7, "the answer to dropping");
@@ -111,7 +111,7 @@ void desk_drop(struct desk *d, uint32_t job)
         d->notes[job].open = 0;
 }
 
-void desk_start(struct desk *d, const struct session *one)
+void desk_start(struct world *d, const struct session *one)
 {
     static struct room texts[4];
     const uint8_t *t[4];
@@ -127,7 +127,7 @@ void desk_start(struct desk *d, const struct session *one)
     expect_lent(d);
 }
 
-void desk_end(struct desk *d, uint32_t slot)
+void desk_end(struct world *d, uint32_t slot)
 {
     uint32_t answer = fbk_end(&d->s, d->table.at, d->table_len, slot);
     expect_answer(answer, end_session(d->table.wanted, d->table_len, slot), "the answer to ending");
