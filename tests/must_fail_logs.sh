@@ -1,10 +1,10 @@
 #!/bin/sh
 # Looks at why each must-fail edit was refused: must_fail_logs.sh [ROOT], after `rt ci`.
 # An edit that takes a loop or an index away is refused because the proof still names what was to be shown of it.
-# The first error then says that there is no such name, and the edit shows nothing of the contract.
+# The first error then says that there is no such name, or that a call's result has no such field, and the edit shows nothing of the contract.
 set -u
 root=${1:-.}
-empty='has no `(Need|InvT|MeasureT)-'
+empty='has no (`(Need|InvT|MeasureT)-|field `)'
 
 passed=0 failed=0
 wrong() { # EDIT WHY
