@@ -7,15 +7,6 @@ for tool in rt gcc; do
 done
 mkdir -p target/demo
 
-# Runs a command of rt, and shows how far it is; what was proved before is not told again.
-proved() { # COMMAND...
-    { "$@" 2>&1; echo $? >target/demo/status; } | tee target/demo/proofs | sed -n '/(unchanged since/d; s/^rt: /    /p'
-    [ "$(cat target/demo/status)" -eq 0 ] && return
-    cat target/demo/proofs
-    echo 'demo: not proved' >&2
-    exit 1
-}
-
 # What a program writes must be what is stored.
 shown() { # PROGRAM STORED
     "$1" >target/demo/output || { echo "demo: $1 ended with status $?" >&2; exit 1; }
@@ -28,8 +19,8 @@ echo 'Fumbokeri: the receiving side of RADIUS Dynamic Authorization, proved.'
 echo
 echo 'First the proofs. From nothing they take some minutes.'
 echo
-proved rt check vectors vectors_requests
-proved rt staticlib capi
+tests/proved.sh rt check vectors vectors_requests || exit 1
+tests/proved.sh rt staticlib capi || exit 1
 echo
 echo 'Then the proved code, run on the examples that the RFCs print, on stored packets, requests and replies.'
 echo
