@@ -1,5 +1,6 @@
 #!/bin/sh
-# packages.sh WHO TOOL... -- PACKAGE TEST [PACKAGE TEST]...: sees that the tools are there, and installs each package whose test fails.
+# packages.sh WHO TOOL... -- PACKAGES TEST [PACKAGES TEST]...: sees that the tools are there, and installs what fails its test.
+# APT_WORDS, where set, goes to apt-get.
 set -u
 who=$1
 shift
@@ -9,7 +10,7 @@ while [ "$1" != -- ]; do
 done
 shift
 
-missing() { # PACKAGE TEST...
+missing() { # PACKAGES TEST...
     while [ $# -gt 0 ]; do
         sh -c "$2" >/dev/null 2>&1 || echo "$1"
         shift 2
@@ -19,7 +20,8 @@ missing() { # PACKAGE TEST...
 packages=$(missing "$@" | xargs)
 [ -n "$packages" ] || exit 0
 echo "$who: not here, so installed now by apt-get: $packages"
+export DEBIAN_FRONTEND=noninteractive # no questions, as that of tshark on who may capture
 # shellcheck disable=SC2086 # one word to a package
-{ apt-get update -qq && apt-get install -y -qq $packages; } >&2
+{ apt-get update -qq && apt-get install -y -qq ${APT_WORDS:-} $packages; } >&2
 packages=$(missing "$@" | xargs)
 [ -z "$packages" ] || { echo "$who: cannot install $packages; install by hand, and run again" >&2; exit 1; }
