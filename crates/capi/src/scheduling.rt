@@ -30,7 +30,7 @@ pub extern "C" fn fbk_open_by_value(
     ensures { λ _. ⌜ now (store .exit) ≡ openStore (schedulerIn c) (now (packet .entry)) (now (store .entry)) ⌝ }
 {
     let s = layout::scheduler_in(c);
-    reports::outcome::called_out(scheduler::opening::open(s, packet, clock, store))
+    reports::outcome::called_out(opening::open(s, packet, clock, store))
 }
 
 // One step of a job.

@@ -3,5 +3,4 @@ pub mod Kept
 pub mod Dropping
 pub mod Founding
 pub mod Tables
-pub mod Admitting
 pub mod New

@@ -6,6 +6,7 @@ use mathlib.Core.List.{List}
 use Prim.Native.Nat.{ℕ, _*_, _≤_, _<_}
 use native.Mathlib.Omega.{arith}
 use lib.ListN.{length, take, getD}
+use lib.Seq.{length-take-le}
 use Rattle.octets.proofs.Part.{length-part}
 use Rattle.jobs.specs.declared.Moved.{Moved}
 use Rattle.jobs.specs.declared.Ending.{Ending}
@@ -18,15 +19,14 @@ use Rattle.scheduler.specs.Scheduler.{settingsOf, jobAt, withJob, restartAll, p
 use Rattle.scheduler.specs.Calls.{isAck, steppedAs, movedOf}
 use Rattle.scheduler.proofs.Four.{noJob, job-read}
 use Rattle.scheduler.proofs.Kept.{with-ours, all-ours}
-use Rattle.scheduler.proofs.Admitting.{cut}
 
 -- ---- what the job's step asks for
 
 pub secret-cut : (s : Scheduler) → Ours s → length (take (s .«secret_size») (s .secret)) ≡ s .«secret_size»
-secret-cut s o = cut (s .«secret_size») (s .secret) (omega (arith, o .secret-high, o .secret-room))
+secret-cut s o = length-take-le (s .«secret_size») (s .secret) (omega (arith, o .secret-high, o .secret-room))
 
 pub name-cut : (s : Scheduler) → Ours s → length (take (s .«name_size») (s .name)) ≡ s .«name_size»
-name-cut s o = cut (s .«name_size») (s .name) (omega (arith, o .name-high, o .name-room))
+name-cut s o = length-take-le (s .«name_size») (s .name) (omega (arith, o .name-high, o .name-room))
 
 pub secret-short : (s : Scheduler) → Ours s → length (take (s .«secret_size») (s .secret)) ≤ 64
 secret-short s o = rw (secret-cut s o) (o .secret-high)

@@ -1,12 +1,13 @@
--- `scheduler::opening::admit` meets its contract: a part of the store has room for Length bytes.
+-- `opening::admit` meets its contract: a part of the store has room for Length bytes.
 -- Assumes nothing.
 use borrow.Author.Needs.{needs}
-use Rattle.scheduler.proofs.Admitting.{cut, room, opened-as}
-use Rattle.scheduler.proofs.opening.admit.Statement.{statement}
-use Rattle.scheduler.proofs.opening.admit.Tie as tie
+use lib.Seq.{length-take-le}
+use Rattle.opening.proofs.Admitting.{room, opened-as}
+use Rattle.opening.proofs.admit.Statement.{statement}
+use Rattle.opening.proofs.admit.Tie as tie
 
 slice-aggregate-copy : tie.Need-slice-aggregate-copy
-slice-aggregate-copy c = search (needs, cut)
+slice-aggregate-copy c = search (needs, length-take-le)
 
 copy-requires : tie.Need-copy-requires
 copy-requires c κs = search (needs, room)

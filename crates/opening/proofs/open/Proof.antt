@@ -1,9 +1,9 @@
--- `scheduler::opening::open` meets its contract: R5, R6 and D1 to D3 stand in their order.
+-- `opening::open` meets its contract: R5, R6 and D1 to D3 stand in their order.
 -- Assumes nothing.
 use borrow.Author.Needs.{needs}
-use Rattle.scheduler.proofs.Admitting.{open-short, short-store, open-full, full-store, open-discarded, discarded-store, open-admitted, admitted-store, admitted-ours}
-use Rattle.scheduler.proofs.opening.open.Statement.{statement}
-use Rattle.scheduler.proofs.opening.open.Tie as tie
+use Rattle.opening.proofs.Admitting.{open-short, short-store, open-full, full-store, open-discarded, discarded-store, open-admitted, admitted-store, admitted-ours}
+use Rattle.opening.proofs.open.Statement.{statement}
+use Rattle.opening.proofs.open.Tie as tie
 
 returns : tie.Need-returns
 returns c = (search (needs, open-short), (search (needs, short-store), search needs))

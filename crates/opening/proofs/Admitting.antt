@@ -1,30 +1,28 @@
 -- Opening: R5, R6, D1 to D3 in their order, else the lowest free job gets the packet's Length bytes. A part of the store has room for them, and the new job has its first block before it.
 -- Assumes nothing.
-use mathlib.Core.Path.{_≡_, _∙_}
+use mathlib.Core.Path.{_≡_}
 use mathlib.Core.List.{List}
 use Prim.Native.Nat.{ℕ, _+_, _*_, _≤_, _<_}
 use native.Mathlib.Omega.{arith}
 use borrow.Author.Tests.{eq-eqb, ne-eqb}
-use lib.ListN.{length, take, length-take}
+use lib.ListN.{length, take}
+use lib.Seq.{length-take-le}
 use Rattle.octets.specs.Runs.{write}
 use Rattle.rules.specs.Discards.{formOf, Sized}
 use Rattle.jobs.specs.declared.Job.{Job}
 use Rattle.jobs.specs.Job.{firstJob}
 use Rattle.scheduler.specs.declared.Scheduler.{Scheduler}
 use Rattle.scheduler.specs.declared.Called.{Called}
 use Rattle.scheduler.specs.declared.Outcome.the-variants.{Refused, Discarded, Opened}
 use Rattle.scheduler.specs.Scheduler.{openAt, lowestFree, withJob, Ours}
 use Rattle.scheduler.specs.Refusals.{openRefusal}
 use Rattle.scheduler.specs.Calls.{called, openCalled, openStore}
 use Rattle.scheduler.proofs.Kept.{with-ours, first-ours}
 
 -- ---- the copy
 
-pub cut : (n : ℕ) (p : List ℕ) → n ≤ length p → length (take n p) ≡ n
-cut n p h = length-take n p ∙ omega arith
-
 pub room : (j n : ℕ) (p store : List ℕ) → n ≤ length p → j < 4 → n ≤ 4096 → length store ≡ 16384 → j * 4096 + length (take n p) ≤ length store
-room j n p store given below short long = rw (cut n p given) (omega arith)
+room j n p store given below short long = rw (length-take-le n p given) (omega arith)
 
 pub opened-as : (s : Scheduler) (j n clock : ℕ) (x : Job) → x ≡ firstJob n clock → called (withJob s j x) (Opened j) ≡ called (withJob s j (firstJob n clock)) (Opened j)
 opened-as s j n clock x is = rw is
