@@ -44,7 +44,7 @@ pub fn nak(
     ensures { λ r. ⌜ r ≡ Nak cause skew (replyLength (now (p .entry)) cause) ⌝ }
     ensures { λ r. ⌜ now (reply .exit) ≡ write (now (reply .entry)) 0 (replyOf (now (secret .entry)) (now (p .entry)) cause) ⌝ }
 {
-    let size = reply::write_reply(reply, p, n, secret, cause, f, count, ends, sizes);
+    let size = replies::write_reply(reply, p, n, secret, cause, f, count, ends, sizes);
     Answer::Nak(cause, skew, size)
 }
 
@@ -86,7 +86,7 @@ pub fn commit(
             sizes,
         );
     }
-    let size = reply::write_reply(
+    let size = replies::write_reply(
         reply,
         p,
         n,

@@ -20,7 +20,7 @@ use Rattle.answers.specs.declared.Answer.the-variants as A
 use Rattle.answers.specs.Commit.{countAnswer}
 use Rattle.handler.specs.Refusals.{refusalOf}
 use Rattle.handler.specs.Handle.{answerOf, handleAnswer}
-use Rattle.handler.proofs.Fresh.{uncaused}
+use Rattle.replies.proofs.Fresh.{uncaused}
 use Rattle.handler.proofs.Bounds.{changeCount}
 
 pub record Acked (g : Settings) (t p : List ℕ) (m : ℕ) : Type 0 where

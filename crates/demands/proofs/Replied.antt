@@ -18,7 +18,7 @@ use Rattle.reply.specs.Reply.{replyLength}
 use Rattle.answers.specs.declared.Answer.the-variants as A
 use Rattle.handler.specs.Refusals.{refusalOf}
 use Rattle.handler.specs.Handle.{answerOf, handleAnswer}
-use Rattle.handler.proofs.Fresh.{answered, fits}
+use Rattle.replies.proofs.Fresh.{answered, fits}
 use Rattle.demands.specs.Answers.{silent}
 
 pub record Formed (g : Settings) (p : List ℕ) (clock : ℕ) : Type 0 where

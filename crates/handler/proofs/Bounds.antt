@@ -27,7 +27,7 @@ use Rattle.answers.specs.declared.Answer.the-variants as A
 use Rattle.answers.specs.Commit.{countAnswer}
 use Rattle.handler.specs.Refusals.{refusalOf}
 use Rattle.handler.specs.Handle.{answerOf, handleAnswer}
-use Rattle.handler.proofs.Fresh.{answered, fits}
+use Rattle.replies.proofs.Fresh.{answered, fits}
 
 -- the reply's length, and the number of sessions changed
 abbrev pub replySize : D.Answer → ℕ

@@ -1,4 +1,3 @@
-pub mod Fresh
 pub mod Arms
 pub mod Stages
 pub mod Bounds

@@ -17,7 +17,7 @@ use Rattle.rules.specs.Verdict.{checkVerdict}
 use Rattle.reply.specs.Reply.{replyLength, replyOf}
 use Rattle.answers.specs.declared.Answer as D
 use Rattle.answers.specs.declared.Answer.the-variants as A
-use Rattle.handler.proofs.Fresh.{answered, nak-short}
+use Rattle.replies.proofs.Fresh.{answered, nak-short}
 use Rattle.jobs.specs.declared.Job.{Job}
 use Rattle.jobs.specs.declared.Moved.{Moved}
 use Rattle.jobs.specs.declared.Ending.the-variants.{Done}

@@ -9,3 +9,5 @@ pub mod Trailing
 pub mod Tilings
 pub mod Seals
 pub mod Passing
+pub mod Replying
+pub mod Fresh

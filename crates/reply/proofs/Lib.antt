@@ -2,4 +2,3 @@ pub mod Pieces
 pub mod States
 pub mod Proxies
 pub mod Lengths
-pub mod Replying

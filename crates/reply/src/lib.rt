@@ -1,40 +1,152 @@
-// The reply to a request: what stands where.
-mod parts; // parts.rt: head and attributes
-
+// The parts of a reply, each written behind the one before; the head comes last, since it tells the length.
 ghost use mathlib.Core.Path.{_≡_};
-ghost use Prim.Native.Nat.{_≤_};
+ghost use mathlib.Core.Bool.{cond};
+ghost use mathlib.Core.List.{_++_};
+ghost use Prim.Native.Nat.{_+_, _≤_, _<_};
 ghost use lib.ListN.{length};
 ghost use Rattle.octets.specs.Runs.{write};
+ghost use Rattle.attributes.specs.Attributes.{stepAt};
+ghost use Rattle.attributes.specs.declared.Step.the-variants.{Found};
 ghost use Rattle.survey.specs.Survey.{Surveyed};
-ghost use Rattle.rules.specs.Packet.{codeOf, areaOf};
-ghost use Rattle.rules.specs.Discards.{formOf, Sized};
-ghost use Rattle.reply.specs.Reply.{replyLength, replyOf};
+ghost use Rattle.rules.specs.Packet.{codeOf};
+ghost use Rattle.rules.specs.Verdict.{applies};
+ghost use Rattle.reply.specs.Reply.{asCame, statePart, causePart, proxyPart, replyLength, headOf};
+use attributes::Attribute;
+use causes::Cause;
+use frames::put;
 
-// Writes the reply to the request p of Length n, and returns its length. What one pass over the attributes told says where
-// the first State stands and whether there is a type 80.
-pub fn write_reply(
-    reply: &mut [u8],
-    p: &[u8],
-    n: usize,
-    secret: &[u8],
-    cause: causes::Cause,
+fn wide(x: u8) -> usize
+    ensures { λ r. ⌜ (r ≡ x) × (r < 256) ⌝ }
+{
+    x as usize
+}
+
+// A cause is a NAK.
+fn applies(cause: Cause) -> bool
+    ensures { λ r. ⌜ r ≡ applies cause ⌝ }
+{
+    match cause {
+        Cause::NoCause => false,
+        Cause::UnsupportedAttribute => true,
+        Cause::MissingAttribute => true,
+        Cause::IdentificationMismatch => true,
+        Cause::InvalidRequest => true,
+        Cause::UnsupportedService => true,
+        Cause::SessionNotFound => true,
+        Cause::ResourcesUnavailable => true,
+    }
+}
+
+// An attribute of the area s as it came, its value as the reader hands it back.
+fn put_attribute(t: &mut [u8], to: usize, s: &[u8], a: Attribute) -> usize
+    requires { ⌜ (stepAt (now s) (a .at) ≡ Found a (a .at + a .size)) × (to + length (asCame (now s) a) ≤ length (now t)) ⌝ }
+    ensures { λ r. ⌜ now (t .exit) ≡ write (now (t .entry)) to (asCame (now (s .entry)) a) ⌝ }
+    ensures { λ r. ⌜ r ≡ to + length (asCame (now (s .entry)) a) ⌝ }
+{
+    put(t, to, a.kind, a.size, attributes::reader::value_at(s, a.at))
+}
+
+// The first State.
+fn put_state(
+    t: &mut [u8],
+    to: usize,
+    s: &[u8],
+    code: u8,
     f: survey::Flags,
     count: &[u8; 256],
     ends: &[u16; 256],
     sizes: &[u8; 256],
 ) -> usize
-    requires { ⌜ Sized (now p) n × (formOf (now p) ≡ 0) ⌝ }
-    requires { ⌜ Surveyed (areaOf (now p)) (codeOf (now p)) f (now count) (now ends) (now sizes) ⌝ }
-    requires { ⌜ (replyLength (now p) cause ≤ 4096) × (4096 ≤ length (now reply)) ⌝ }
-    ensures { λ r. ⌜ now (reply .exit) ≡ write (now (reply .entry)) 0 (replyOf (now (secret .entry)) (now (p .entry)) cause) ⌝ }
-    ensures { λ r. ⌜ r ≡ replyLength (now (p .entry)) cause ⌝ }
+    requires { ⌜ Surveyed (now s) code f (now count) (now ends) (now sizes) ⌝ }
+    requires { ⌜ to + length (statePart (now s)) ≤ length (now t) ⌝ }
+    ensures { λ r. ⌜ now (t .exit) ≡ write (now (t .entry)) to (statePart (now (s .entry))) ⌝ }
+    ensures { λ r. ⌜ r ≡ to + length (statePart (now (s .entry))) ⌝ }
 {
-    let s = octets::slice(p, 20, n - 20);
-    let auth = octets::slice(p, 4, 16);
-    let present = survey::kept::has(count, 80);
-    let body = parts::put_body(&mut *reply, s, p[0], cause, f, count, ends, sizes);
-    let e = frames::put_room(&mut *reply, body, present);
-    parts::put_head(&mut *reply, p, cause, e, auth);
-    frames::seal::put_seals(reply, e, auth, secret, present);
-    e
+    if survey::kept::has(count, 24) {
+        let size = sizes[24];
+        let at = survey::kept::end_of(ends, 24) - wide(size);
+        let a = Attribute { kind: 24, at, size };
+        return put_attribute(t, to, s, a);
+    }
+    to
+}
+
+// Error-Cause on NAK.
+fn put_cause(t: &mut [u8], to: usize, cause: Cause) -> usize
+    requires { ⌜ to + length (causePart cause) ≤ length (now t) ⌝ }
+    ensures { λ r. ⌜ now (t .exit) ≡ write (now (t .entry)) to (causePart cause) ⌝ }
+    ensures { λ r. ⌜ r ≡ to + length (causePart cause) ⌝ }
+{
+    if applies(cause) {
+        let mut v = [0u8; 4];
+        octets::put_be32(&mut v, 0, causes::error_cause(cause));
+        return put(t, to, 101, 6, &v);
+    }
+    to
+}
+
+// Every Proxy-State, in order.
+fn put_proxies(t: &mut [u8], from: usize, s: &[u8]) -> usize
+    requires { ⌜ from + length (proxyPart (now s)) ≤ length (now t) ⌝ }
+    ensures { λ r. ⌜ now (t .exit) ≡ write (now (t .entry)) from (proxyPart (now (s .entry))) ⌝ }
+    ensures { λ r. ⌜ r ≡ from + length (proxyPart (now (s .entry))) ⌝ }
+{
+    let mut at: usize = 0;
+    let mut to = from;
+    loop {
+        match attributes::step_at(s, at) {
+            attributes::Step::Found(a, next) => {
+                if a.kind == 33 {
+                    to = put_attribute(&mut *t, to, s, a);
+                }
+                at = next;
+            }
+            attributes::Step::End => {
+                return to;
+            }
+            attributes::Step::Bad => {
+                return to;
+            }
+        }
+    }
+}
+
+// The attributes but type 80.
+pub fn put_body(
+    t: &mut [u8],
+    s: &[u8],
+    code: u8,
+    cause: Cause,
+    f: survey::Flags,
+    count: &[u8; 256],
+    ends: &[u16; 256],
+    sizes: &[u8; 256],
+) -> usize
+    requires { ⌜ Surveyed (now s) code f (now count) (now ends) (now sizes) ⌝ }
+    requires { ⌜ 20 + length (statePart (now s) ++ causePart cause ++ proxyPart (now s)) ≤ length (now t) ⌝ }
+    ensures { λ r. ⌜ now (t .exit) ≡ write (now (t .entry)) 20 (statePart (now (s .entry)) ++ causePart cause ++ proxyPart (now (s .entry))) ⌝ }
+    ensures { λ r. ⌜ r ≡ 20 + length (statePart (now (s .entry)) ++ causePart cause ++ proxyPart (now (s .entry))) ⌝ }
+{
+    let state = put_state(&mut *t, 20, s, code, f, count, ends, sizes);
+    let to = put_cause(&mut *t, state, cause);
+    put_proxies(t, to, s)
+}
+
+// What an ACK or NAK adds to the request's code.
+fn added(cause: Cause) -> u8
+    ensures { λ r. ⌜ r ≡ cond (applies cause) 2 1 ⌝ }
+{
+    if applies(cause) {
+        return 2;
+    }
+    1
+}
+
+// Code, identifier and Length n, and the request's authenticator.
+pub fn put_head(t: &mut [u8], p: &[u8], cause: Cause, n: usize, auth: &[u8])
+    requires { ⌜ (20 ≤ length (now t)) × (20 ≤ length (now p)) × (codeOf (now p) < 64) × (length (now auth) ≡ 16) ⌝ }
+    requires { ⌜ (n ≡ replyLength (now p) cause) × (n ≤ 4096) ⌝ }
+    ensures { λ _. ⌜ now (t .exit) ≡ write (now (t .entry)) 0 (headOf (now (p .entry)) cause ++ now (auth .entry)) ⌝ }
+{
+    frames::put_front(t, p[0] + added(cause), p[1], n, auth);
 }

@@ -23,7 +23,7 @@ use Rattle.rules.specs.Settings.{Settings}
 use Rattle.rules.specs.Discards.{badMac}
 use Rattle.rules.specs.Verdict.{applies, nakOr, freshVerdict, checkVerdict}
 use Rattle.replies.proofs.Judged.{mac-eighteen}
-use Rattle.handler.proofs.Fresh.{reached, uncaused}
+use Rattle.replies.proofs.Fresh.{reached, uncaused}
 use Rattle.reread.specs.Reread.{usable, oddMac, holdsPassed}
 use Rattle.jobs.specs.Moves.{skewAt}
 use Rattle.serial.proofs.Same.{SamePacket, same-holds}

@@ -2,7 +2,7 @@
 -- Assumes nothing.
 use borrow.Author.Needs.{needs}
 use mathlib.Core.Path.{refl}
-use Rattle.handler.proofs.Fresh.{nak-short, passed-short, passed-misfit, passed-once}
+use Rattle.replies.proofs.Fresh.{nak-short, passed-short, passed-misfit, passed-once}
 use Rattle.handler.proofs.Arms.{arm-discarded, arm-stale, arm-nak, nak-table, nak-reply, arm-passed}
 use Rattle.handler.proofs.passed.answered.Statement.{statement}
 use Rattle.handler.proofs.passed.answered.Tie as tie

@@ -1,17 +1,17 @@
--- `reply::write_reply` meets its contract: each call leaves one part more of the definition's reply, and the last two its signatures.
+-- `replies::write_reply` meets its contract: each call leaves one part more of the definition's reply, and the last two its signatures.
 -- Assumes nothing.
 use mathlib.Core.Path.{_≡_, refl}
 use Prim.Native.Nat.{_+_, _≤_}
 use native.Mathlib.Omega.{arith}
 use denote.Ref.{now}
 use lib.ListN.{length}
 use Rattle.reply.specs.Reply.{replyLength}
 use Rattle.frames.specs.Rooms.{macRoom}
 use Rattle.rules.proofs.Verdicts.{area-of, surveyed-at}
-use Rattle.reply.proofs.Replying.{code-low, auth-long, body-fits, room-fits, end-is, replied}
+use Rattle.replies.proofs.Replying.{code-low, auth-long, body-fits, room-fits, end-is, replied}
 use borrow.Author.Needs.{needs}
-use Rattle.reply.proofs.write_reply.Statement.{statement}
-use Rattle.reply.proofs.write_reply.Tie as tie
+use Rattle.replies.proofs.write_reply.Statement.{statement}
+use Rattle.replies.proofs.write_reply.Tie as tie
 
 put-body-requires : tie.Need-put-body-requires
 put-body-requires c κs = (search (needs, surveyed-at, area-of), search (needs, body-fits))

@@ -1,10 +1,10 @@
--- `reply::parts::put_attribute` meets its contract: the attribute as it came is its type, its length and its value.
+-- `reply::put_attribute` meets its contract: the attribute as it came is its type, its length and its value.
 -- Assumes nothing.
 use Rattle.frames.proofs.Fronts.{named-fits, named-written, named-end}
 use Rattle.reply.proofs.Pieces.{came}
 use borrow.Author.Needs.{needs}
-use Rattle.reply.proofs.parts.put_attribute.Statement.{statement}
-use Rattle.reply.proofs.parts.put_attribute.Tie as tie
+use Rattle.reply.proofs.put_attribute.Statement.{statement}
+use Rattle.reply.proofs.put_attribute.Tie as tie
 
 put-requires : tie.Need-put-requires
 put-requires c κs = search (needs, named-fits, came)

@@ -1,12 +1,12 @@
--- `reply::parts::put_proxies` meets its contract: the Proxy-States left from the place on, written from here on, give all of them.
+-- `reply::put_proxies` meets its contract: the Proxy-States left from the place on, written from here on, give all of them.
 -- Assumes nothing.
 use Prim.Native.Nat.{_-_}
 use borrow.Author.Needs.{needs}
 use lib.ListN.{length}
 use Rattle.attributes.proofs.Walks.{advance}
 use Rattle.reply.proofs.Proxies.{Copying, copy-starts, copy-stands, copy-fits, copy-one, copy-none, end-place, end-bytes, bad-place, bad-bytes}
-use Rattle.reply.proofs.parts.put_proxies.Statement.{statement}
-use Rattle.reply.proofs.parts.put_proxies.Tie as tie
+use Rattle.reply.proofs.put_proxies.Statement.{statement}
+use Rattle.reply.proofs.put_proxies.Tie as tie
 
 abbrev Inv-loop : tie.InvT-loop
 Inv-loop t₀ from s at₀ to₀ t at to = Copying s t₀ from t at to

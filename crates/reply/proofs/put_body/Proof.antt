@@ -1,9 +1,9 @@
--- `reply::parts::put_body` meets its contract: three writes, each behind the one before.
+-- `reply::put_body` meets its contract: three writes, each behind the one before.
 -- Assumes nothing.
 use Rattle.frames.proofs.Writes.{room-one, room-two, room-three, three-end, write-three}
 use borrow.Author.Needs.{needs}
-use Rattle.reply.proofs.parts.put_body.Statement.{statement}
-use Rattle.reply.proofs.parts.put_body.Tie as tie
+use Rattle.reply.proofs.put_body.Statement.{statement}
+use Rattle.reply.proofs.put_body.Tie as tie
 
 put-state-requires : tie.Need-put-state-requires
 put-state-requires c κs = search (needs, room-one)

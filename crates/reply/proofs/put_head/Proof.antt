@@ -1,9 +1,9 @@
--- `reply::parts::put_head` meets its contract: the front with the reply's code.
+-- `reply::put_head` meets its contract: the front with the reply's code.
 -- Assumes nothing.
 use Rattle.reply.proofs.Pieces.{head-written, code-fits}
 use borrow.Author.Needs.{needs}
-use Rattle.reply.proofs.parts.put_head.Statement.{statement}
-use Rattle.reply.proofs.parts.put_head.Tie as tie
+use Rattle.reply.proofs.put_head.Statement.{statement}
+use Rattle.reply.proofs.put_head.Tie as tie
 
 add-put-front : tie.Need-add-put-front
 add-put-front c = search (needs, code-fits)

@@ -1,10 +1,10 @@
--- `reply::parts::put_cause` meets its contract: the number in four bytes is the value of Error-Cause; an ACK has none.
+-- `reply::put_cause` meets its contract: the number in four bytes is the value of Error-Cause; an ACK has none.
 -- Assumes nothing.
 use Rattle.frames.proofs.Fronts.{named-fits, named-written, named-end, nothing-written, nothing-end}
 use Rattle.reply.proofs.Pieces.{cause-bytes, cause-none}
 use borrow.Author.Needs.{needs}
-use Rattle.reply.proofs.parts.put_cause.Statement.{statement}
-use Rattle.reply.proofs.parts.put_cause.Tie as tie
+use Rattle.reply.proofs.put_cause.Statement.{statement}
+use Rattle.reply.proofs.put_cause.Tie as tie
 
 put-requires : tie.Need-put-requires
 put-requires c κs = search (needs, named-fits, cause-bytes)
