@@ -26,12 +26,16 @@ isOpen (Hash k) = true
 isOpen Check = true
 isOpen (Match k) = true
 
--- a job in Match or awaiting Commit goes back to slot 0, marks cleared
+-- at slot 0, marks cleared
+abbrev pub atFirstSlot : D.Job → D.Job
+atFirstSlot j = record { stage = Match 0; words = j .words; marks = noMarks; length = j .length; clock = j .clock }
+
+-- a job in Match or awaiting Commit goes back there
 abbrev pub restartedAt : S.Stage → D.Job → D.Job
 restartedAt Free j = j
 restartedAt (Hash k) j = j
 restartedAt Check j = j
-restartedAt (Match k) j = record { stage = Match 0; words = j .words; marks = noMarks; length = j .length; clock = j .clock }
+restartedAt (Match k) j = atFirstSlot j
 
 unfoldable pub restarted : D.Job → D.Job
 restarted j = restartedAt (j .stage) j

@@ -10,7 +10,6 @@ use Rattle.octets.specs.Runs.{equalBytes}
 use Rattle.md5.specs.Md5.{output}
 use Rattle.blockwise.specs.Block.{blockCount, hashed}
 use Rattle.slots.specs.Slot.{slotCount}
-use Rattle.slots.specs.Marks.{noMarks}
 use Rattle.stamps.specs.declared.Stamp as T
 use Rattle.stamps.specs.declared.Stamp.the-variants.{Usable, Unusable}
 use Rattle.stamps.specs.Stamp.{stampOf, skewOf}
@@ -32,7 +31,7 @@ use Rattle.jobs.specs.declared.Ending as E
 use Rattle.jobs.specs.declared.Ending.the-variants.{Going, Done}
 use Rattle.jobs.specs.declared.Moved as M
 use Rattle.chaining.specs.Words.{wordsOf, hashState}
-use Rattle.jobs.specs.Job.{freeJob}
+use Rattle.jobs.specs.Job.{freeJob, atFirstSlot}
 use Rattle.reread.specs.Reread.{holds, holdsPassed}
 
 -- it goes on; it is finished, and free again
@@ -62,7 +61,7 @@ abbrev pub checkedAs : B.Job → List ℕ → R.Verdict → M.Moved
 checkedAs j q (J.Discarded d) = done (A.Discarded d)
 checkedAs j q (J.Stale skew) = done (A.Stale skew)
 checkedAs j q (J.Nak c skew) = done (A.Nak c skew (replyLength q c))
-checkedAs j q (J.Passed skew) = going (record { stage = Match 0; words = j .words; marks = noMarks; length = j .length; clock = j .clock })
+checkedAs j q (J.Passed skew) = going (atFirstSlot j)
 
 unfoldable pub checkMove : Settings → B.Job → List ℕ → M.Moved
 checkMove g j q = cond (holds (j .length) q) (checkedAs j q (checkVerdict g (wordsSigned j q) q (j .clock))) (done (A.Discarded 1))

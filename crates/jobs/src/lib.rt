@@ -8,7 +8,7 @@ ghost use mathlib.Core.Path.{_≡_};
 ghost use Prim.Native.Nat.{_≤_};
 ghost use lib.ListN.{length};
 ghost use Rattle.rules.specs.Settings.{settings};
-ghost use Rattle.jobs.specs.Job.{freeJob, firstJob, isOpen, restarted, JobOurs};
+ghost use Rattle.jobs.specs.Job.{freeJob, firstJob, atFirstSlot, isOpen, restarted, JobOurs};
 ghost use Rattle.jobs.specs.Moves.{going, done, moved, movedTable, replyAfter};
 
 pub enum Stage {
@@ -98,23 +98,30 @@ impl Job {
         }
     }
 
-    // Back to slot 0 with no marks, where it is past Check.
+    // At slot 0, with no marks.
+    fn at_first_slot(self) -> Job
+        ensures { λ r. ⌜ r ≡ atFirstSlot self ⌝ }
+    {
+        let words = self.words;
+        Job {
+            stage: Stage::Match(0),
+            words,
+            marks: [0u8; 64],
+            length: self.length,
+            clock: self.clock,
+        }
+    }
+
+    // Back to slot 0, where it is past Check.
     pub fn restart(self) -> Job
         ensures { λ r. ⌜ r ≡ restarted self ⌝ }
     {
         let stage = self.stage;
-        let words = self.words;
         match stage {
             Stage::Free => self,
             Stage::Hash(_) => self,
             Stage::Check => self,
-            Stage::Match(_) => Job {
-                stage: Stage::Match(0),
-                words,
-                marks: [0u8; 64],
-                length: self.length,
-                clock: self.clock,
-            },
+            Stage::Match(_) => self.at_first_slot(),
         }
     }
 

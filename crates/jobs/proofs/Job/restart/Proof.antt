@@ -1,7 +1,7 @@
 -- `Job::restart` meets its contract: each stage is its clause of the definition.
 -- Assumes nothing.
 use borrow.Author.Needs.{needs}
-use Rattle.slots.specs.Marks.{noMarks}
+use mathlib.Core.Path.{_∙_}
 use Rattle.jobs.specs.Job.{restarted}
 use Rattle.jobs.proofs.Job.restart.Statement.{statement}
 use Rattle.jobs.proofs.Job.restart.Tie as tie
@@ -19,8 +19,8 @@ unfolding restarted
 returns-3 c = rw (c .enum-told3 .given .1)
 
 returns-4 : tie.Need-returns-4
-unfolding restarted noMarks
-returns-4 c = rw (c .enum-told4 .given .1)
+unfolding restarted
+returns-4 c = c .at-first-slot .ensures ∙ rw (c .before .enum-told4 .given .1)
 
 pub restart-spec : {M : Type 1} → statement M
 restart-spec =
@@ -30,6 +30,7 @@ restart-spec =
     (λ c. search needs)
     (λ c. search needs)
     (λ c. search needs)
+    (λ c κs. search needs)
     returns
     returns-2
     returns-3

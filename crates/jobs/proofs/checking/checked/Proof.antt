@@ -1,30 +1,15 @@
--- `jobs::checking::checked` meets its contract: one pass over the attributes, and the verdict goes by what it tells.
+-- `jobs::checking::checked` meets its contract: each arm is what the definition has for such a verdict.
 -- Assumes nothing.
 use borrow.Author.Needs.{needs}
-use mathlib.Core.Path.{refl}
-use Rattle.survey.specs.Survey.{zeros}
-use Rattle.rules.proofs.Verdicts.{area-of, area-short, surveyed-of}
-use Rattle.jobs.proofs.Checked.{nak-fits, by-verdict}
+use Rattle.jobs.proofs.Checked.{check-ended, check-passed, ended-reply, passed-reply}
 use Rattle.jobs.proofs.checking.checked.Statement.{statement}
 use Rattle.jobs.proofs.checking.checked.Tie as tie
 
-survey-requires : tie.Need-survey-requires
-unfolding zeros
-survey-requires c κs = (search (needs, area-short), refl, refl, refl)
-
-check-requires : tie.Need-check-requires
-check-requires c κs = (search needs, search (needs, surveyed-of, area-of))
-
-answered-requires : tie.Need-answered-requires
-answered-requires c κs =
-    let check = c .before .before .before .before in
-    let survey = check .before .before .before .before in
-    let slice = survey .before .before .before .before .before in
-    let start = slice .before .before .before .before .before in
-    ((start .pre .0, start .pre .1, start .pre .2), (surveyed-of _ _ _ _ _ _ _ (area-of _ _ _ (slice .slice .ensures) (start .pre .0)) (survey .survey .ensures), nak-fits _ _ _ _ _ _ (check .check .ensures) (start .pre .0)))
-
 returns : tie.Need-returns
-returns c = (search (needs, by-verdict), search needs)
+returns c = (search (needs, check-ended), search (needs, ended-reply))
+
+returns-2 : tie.Need-returns-2
+returns-2 c = (search (needs, check-passed), search (needs, passed-reply))
 
 pub checked-spec : {M : Type 1} → statement M
 checked-spec =
@@ -33,8 +18,7 @@ checked-spec =
     (λ c. search needs)
     (λ c κs. search needs)
     (λ c. search needs)
-    survey-requires
-    check-requires
-    answered-requires
-    (λ c. search needs)
-    returns)
+    (λ c κs. search needs)
+    (λ c κs. search needs)
+    returns
+    returns-2)

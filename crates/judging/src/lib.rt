@@ -1,0 +1,85 @@
+// D4 to D6 and causes 1 to 6 of a request, with the reply where one of the causes applies. It knows no job and no session.
+ghost use mathlib.Core.Path.{_≡_};
+ghost use Prim.Native.Nat.{_≤_};
+ghost use lib.ListN.{length};
+ghost use lib.IntN.{ℤ};
+ghost use Rattle.survey.specs.Survey.{Surveyed};
+ghost use Rattle.causes.specs.declared.Cause.{Cause};
+ghost use Rattle.rules.specs.declared.Verdict.the-variants.{Nak};
+ghost use Rattle.rules.specs.Packet.{codeOf, areaOf};
+ghost use Rattle.rules.specs.Discards.{formOf, Sized};
+ghost use Rattle.rules.specs.Settings.{settings};
+ghost use Rattle.rules.specs.Verdict.{checkVerdict};
+ghost use Rattle.reply.specs.Reply.{replyLength};
+ghost use Rattle.judging.specs.Judged.{judgedAs, replyJudged};
+
+// An answer, or the request passed.
+pub enum Judged {
+    Ended(answers::Answer),
+    Passed,
+}
+
+// What the verdict v comes to; the reply to a NAK fits.
+fn answered(
+    v: rules::Verdict,
+    p: &[u8],
+    n: usize,
+    secret: &[u8],
+    reply: &mut [u8],
+    f: survey::Flags,
+    count: &[u8; 256],
+    ends: &[u16; 256],
+    sizes: &[u8; 256],
+) -> Judged
+    requires { ⌜ Sized (now p) n × (formOf (now p) ≡ 0) × (4096 ≤ length (now reply)) ⌝ }
+    requires { ⌜ Surveyed (areaOf (now p)) (codeOf (now p)) f (now count) (now ends) (now sizes) ⌝ }
+    requires { ⌜ ((c : Cause) (k : ℤ) → v ≡ Nak c k → replyLength (now p) c ≤ 4096) ⌝ }
+    ensures { λ r. ⌜ r ≡ judgedAs (now (p .entry)) v ⌝ }
+    ensures { λ r. ⌜ now (reply .exit) ≡ replyJudged (now (secret .entry)) (now (p .entry)) (now (reply .entry)) r ⌝ }
+{
+    match v {
+        rules::Verdict::Discarded(d) => Judged::Ended(answers::Answer::Discarded(d)),
+        rules::Verdict::Stale(skew) => Judged::Ended(answers::Answer::Stale(skew)),
+        rules::Verdict::Nak(cause, skew) => {
+            let a = answers::nak(reply, p, n, secret, cause, skew, f, count, ends, sizes);
+            Judged::Ended(a)
+        }
+        rules::Verdict::Passed(_) => Judged::Passed,
+    }
+}
+
+// Judges a request that meets none of D1 to D3; signed says that D4 does not apply.
+pub fn judge(
+    signed: bool,
+    p: &[u8],
+    n: usize,
+    secret: &[u8],
+    address: u32,
+    name: &[u8],
+    clock: u32,
+    reply: &mut [u8],
+) -> Judged
+    requires { ⌜ Sized (now p) n × (formOf (now p) ≡ 0) × (4096 ≤ length (now reply)) ⌝ }
+    ensures { λ r. ⌜ r ≡ judgedAs (now (p .entry)) (checkVerdict (settings (now (secret .entry)) address (now (name .entry))) «signed» (now (p .entry)) clock) ⌝ }
+    ensures { λ r. ⌜ now (reply .exit) ≡ replyJudged (now (secret .entry)) (now (p .entry)) (now (reply .entry)) r ⌝ }
+{
+    let mut count = [0u8; 256];
+    let mut ends = [0u16; 256];
+    let mut sizes = [0u8; 256];
+    let s = octets::slice(p, 20, n - 20);
+    let f = survey::survey(s, p[0], &mut count, &mut ends, &mut sizes);
+    let v = rules::check(
+        p,
+        n,
+        signed,
+        secret,
+        address,
+        name,
+        clock,
+        f,
+        &count,
+        &ends,
+        &sizes,
+    );
+    answered(v, p, n, secret, reply, f, &count, &ends, &sizes)
+}
