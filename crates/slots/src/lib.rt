@@ -1,36 +1,10 @@
-// The session table: its slots, which of them are live, and which of them a request names.
-mod compare;
-
+// The session table: its slots, what they hold, and which of them are live.
 ghost use mathlib.Core.Path.{_≡_};
 ghost use mathlib.Core.Bool.{_&&_};
-ghost use Prim.Native.Nat.{_+_, _*_, _≤_, _<_};
+ghost use Prim.Native.Nat.{_+_, _*_, _≤_};
 ghost use lib.Dec.{eqb};
 ghost use lib.ListN.{length, getD};
 ghost use Rattle.slots.specs.Slot.{slotCount, slot, within, live, text};
-ghost use Rattle.slots.specs.Matching.{listed, matchesAt};
-ghost use Rattle.slots.specs.Marks.{marksAfter};
-
-// A field of a slot that a request can name a session by.
-pub enum Field {
-    UserName,
-    NasPort,
-    FramedAddress,
-    CallingStation,
-    SessionId,
-}
-
-// A field and the value that it must have: size bytes from place at on of the request.
-pub struct Criterion {
-    pub field: Field,
-    pub at: usize,
-    pub size: usize,
-}
-
-// The criteria of a request: the first count of the list.
-pub struct Criteria {
-    pub count: usize,
-    pub list: [Criterion; 5],
-}
 
 // The number of slots; none where the length is not 192 times 1 to 64.
 pub fn slot_count(t: &[u8]) -> usize
@@ -64,7 +38,7 @@ fn wide(x: u8) -> usize
 }
 
 // The byte at place i, 0 past the end.
-fn byte(s: &[u8], i: usize) -> usize
+pub fn byte(s: &[u8], i: usize) -> usize
     ensures { λ r. ⌜ r ≡ getD (now (s .entry)) i 0 ⌝ }
 {
     if s.len() <= i {
@@ -84,7 +58,7 @@ pub fn in_range(lo: usize, hi: usize, n: usize) -> bool
 }
 
 // Whether the slot s opens with the mark.
-fn has_mark(s: &[u8]) -> bool
+pub fn has_mark(s: &[u8]) -> bool
     ensures { λ r. ⌜ r ≡ eqb (getD (now (s .entry)) 0 0) 0x5A && eqb (getD (now (s .entry)) 1 0) 0x4C ⌝ }
 {
     if byte(s, 0) != 0x5A {
@@ -129,65 +103,11 @@ pub fn text_at(s: &[u8], i: usize) -> &[u8]
     octets::slice(s, i + 1, byte(s, i))
 }
 
-// Whether slot k is live and meets every criterion. The lengths are looked at last: most slots fail before.
-pub fn match_slot(t: &[u8], k: usize, p: &[u8], c: Criteria) -> bool
-    ensures { λ r. ⌜ r ≡ matchesAt (now (p .entry)) (listed c) (now (t .entry)) k ⌝ }
-{
-    let s = slot_of(t, k);
-    if !has_mark(s) {
-        return false;
-    }
-    let n = compare::number_of(c);
-    let mut i = 0;
-    while i < n {
-        let one = c.list[i];
-        if !compare::meets_one(p, s, one) {
-            return false;
-        }
-        i += 1;
-    }
-    is_live(s)
-}
-
 // Slot k, where it lies in the table whole.
-fn whole_slot(t: &[u8], k: usize) -> &[u8]
+pub fn whole_slot(t: &[u8], k: usize) -> &[u8]
     requires { ⌜ (k + 1) * 192 ≤ length (now t) ⌝ }
     ensures { λ r. ⌜ (now r ≡ slot k (now (t .entry))) × (length (now r) ≡ 192) ⌝ }
 {
     let a = k * 192;
     &t[a..a + 192]
-}
-
-// The marks of all slots: 1 for each that is live and meets every criterion.
-pub fn mark_all(t: &[u8], p: &[u8], c: Criteria) -> [u8; 64]
-    ensures { λ r. ⌜ r ≡ marksAfter (matchesAt (now (p .entry)) (listed c) (now (t .entry))) (slotCount (now (t .entry))) ⌝ }
-{
-    let slots = slot_count(t);
-    let n = compare::number_of(c);
-    let known = compare::all_inside(p, c, n);
-    let mut marks = [0u8; 64];
-    let mut k = 0;
-    while k < slots {
-        let s = whole_slot(t, k);
-        'slot: loop {
-            if !has_mark(s) {
-                break 'slot;
-            }
-            let mut i = 0;
-            while i < n {
-                let one = c.list[i];
-                if !compare::meets_known(p, s, one, known) {
-                    break 'slot;
-                }
-                i += 1;
-            }
-            if !is_live(s) {
-                break 'slot;
-            }
-            marks[k] = 1;
-            break 'slot;
-        }
-        k += 1;
-    }
-    marks
 }

@@ -1,0 +1,7 @@
+pub mod Fields
+pub mod Words
+pub mod Walk
+pub mod Marks
+pub mod Turns
+pub mod Whole
+pub mod Marked
