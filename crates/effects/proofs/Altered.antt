@@ -16,9 +16,9 @@ use Rattle.octets.proofs.Numbers.{be-part}
 use Rattle.attributes.specs.declared.Attribute.{Attribute}
 use Rattle.attributes.specs.declared.Search.the-variants.{At, Missing}
 use Rattle.attributes.specs.Attributes.{attributes, valueOf, firstOf, kindIs}
-use Rattle.slots.specs.declared.Field.the-variants.{UserName, CallingStation, SessionId}
+use Rattle.criteria.specs.declared.Field.the-variants.{UserName, CallingStation, SessionId}
 use Rattle.slots.specs.Slot.{slotCount, slot, live, nasPort, framedAddress, sessionTimeout, idleTimeout, userName, sessionId, callingStation, filterId}
-use Rattle.slots.specs.Matching.{fieldBytes}
+use Rattle.criteria.specs.Matching.{fieldBytes}
 use Rattle.slots.proofs.Count.{slot-fits}
 use Rattle.slots.proofs.Places.{length-slot}
 use Rattle.sessions.specs.declared.Alteration.{Alteration}

@@ -19,13 +19,13 @@ use Rattle.survey.specs.Survey.{Surveyed, endOf, sizeOf}
 use Rattle.survey.specs.Turns.{keptValue}
 use Rattle.survey.proofs.Repeats.{at-most-once}
 use Rattle.survey.proofs.Values.{kept-attribute, seen-any}
-use Rattle.slots.specs.declared.Criterion.{Criterion}
-use Rattle.slots.specs.declared.Field.{Field}
-use Rattle.slots.specs.declared.Field.the-variants.{UserName, NasPort, FramedAddress, CallingStation, SessionId}
+use Rattle.criteria.specs.declared.Criterion.{Criterion}
+use Rattle.criteria.specs.declared.Field.{Field}
+use Rattle.criteria.specs.declared.Field.the-variants.{UserName, NasPort, FramedAddress, CallingStation, SessionId}
 use Rattle.slots.specs.Slot.{slot}
-use Rattle.slots.specs.Matching.{fieldBytes, meets, all, matches, matchesAt}
-use Rattle.slots.specs.Marks.{marksAfter}
-use Rattle.slots.proofs.Marked.{marks-same}
+use Rattle.criteria.specs.Matching.{fieldBytes, meets, all, matches, matchesAt}
+use Rattle.criteria.specs.Marks.{marksAfter}
+use Rattle.criteria.proofs.Marked.{marks-same}
 use Rattle.causes.specs.declared.Cause.the-variants as C
 use Rattle.effects.specs.Kept.{ifKept, keptCriteria}
 use Rattle.effects.specs.Matching.{equalsField, allOf, sessionMatches, matchesIn}

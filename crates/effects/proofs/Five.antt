@@ -11,8 +11,8 @@ use Rattle.attributes.specs.declared.Search.{Search}
 use Rattle.attributes.specs.declared.Search.the-variants.{At}
 use Rattle.attributes.specs.Attributes.{any, found, firstOf}
 use Rattle.survey.specs.Types.{member, criteria}
-use Rattle.slots.specs.declared.Field.{Field}
-use Rattle.slots.specs.declared.Field.the-variants.{UserName, NasPort, FramedAddress, CallingStation, SessionId}
+use Rattle.criteria.specs.declared.Field.{Field}
+use Rattle.criteria.specs.declared.Field.the-variants.{UserName, NasPort, FramedAddress, CallingStation, SessionId}
 use Rattle.effects.specs.Matching.{fieldFor, allOf}
 
 -- where the test of a type holds, those of the types behind it do not

@@ -11,8 +11,8 @@ use Rattle.survey.specs.declared.Flags.{Flags}
 use Rattle.survey.specs.Types.{firstRepeated, none}
 use Rattle.survey.specs.Survey.{Surveyed}
 use Rattle.slots.specs.Slot.{slotCount, slot, live}
-use Rattle.slots.specs.Matching.{matchesAt}
-use Rattle.slots.specs.Marks.{marksAfter, countTo}
+use Rattle.criteria.specs.Matching.{matchesAt}
+use Rattle.criteria.specs.Marks.{marksAfter, countTo}
 use Rattle.sessions.specs.declared.Change.{Change}
 use Rattle.sessions.specs.Change.{changeAt, marked, changeMarked, countMarked}
 use Rattle.sessions.proofs.Changed.{named, named-counted}

@@ -6,9 +6,9 @@ use mathlib.Core.List.{List}
 use Prim.Native.Nat.{ℕ, _<_}
 use lib.ListN.{length}
 use Rattle.slots.specs.Slot.{slotCount, slot, live}
-use Rattle.slots.specs.Marks.{marksAfter}
+use Rattle.criteria.specs.Marks.{marksAfter}
 use Rattle.slots.proofs.Count.{count-same}
-use Rattle.slots.proofs.Marked.{count-none}
+use Rattle.criteria.proofs.Marked.{count-none}
 use Rattle.sessions.specs.Change.{changed, changeMarked}
 use Rattle.sessions.proofs.Slots.{length-changeMarked}
 use Rattle.sessions.proofs.Changed.{named-changed}

@@ -9,11 +9,11 @@ use lib.ListN.{length, take, set}
 use lib.Seq.{take-suc-set}
 use Rattle.octets.specs.Numbers.{be}
 use Rattle.survey.specs.Survey.{seenAt}
-use Rattle.slots.specs.declared.Field.{Field}
-use Rattle.slots.specs.declared.Field.the-variants.{UserName, NasPort, FramedAddress, CallingStation, SessionId}
-use Rattle.slots.specs.declared.Criterion.{Criterion}
-use Rattle.slots.specs.declared.Criteria.{Criteria}
-use Rattle.slots.specs.Matching.{listed}
+use Rattle.criteria.specs.declared.Field.{Field}
+use Rattle.criteria.specs.declared.Field.the-variants.{UserName, NasPort, FramedAddress, CallingStation, SessionId}
+use Rattle.criteria.specs.declared.Criterion.{Criterion}
+use Rattle.criteria.specs.declared.Criteria.{Criteria}
+use Rattle.criteria.specs.Matching.{listed}
 use Rattle.sessions.specs.declared.Number.the-variants.{Keep, Set}
 use Rattle.sessions.specs.declared.Text.the-variants.{Same, Value}
 use Rattle.effects.specs.Kept.{keptPlace, keptSize, ifKept, keptCriteria, keptNumber, keptText}

@@ -6,9 +6,9 @@ use Prim.Native.Nat.{ℕ, _+_, _-_}
 use lib.ListN.{getD}
 use Rattle.octets.specs.Numbers.{be}
 use Rattle.survey.specs.Survey.{seenAt}
-use Rattle.slots.specs.declared.Field.{Field}
-use Rattle.slots.specs.declared.Field.the-variants.{UserName, NasPort, FramedAddress, CallingStation, SessionId}
-use Rattle.slots.specs.declared.Criterion.{Criterion}
+use Rattle.criteria.specs.declared.Field.{Field}
+use Rattle.criteria.specs.declared.Field.the-variants.{UserName, NasPort, FramedAddress, CallingStation, SessionId}
+use Rattle.criteria.specs.declared.Criterion.{Criterion}
 use Rattle.sessions.specs.declared.Number.{Number}
 use Rattle.sessions.specs.declared.Number.the-variants.{Keep, Set}
 use Rattle.sessions.specs.declared.Text.{Text}

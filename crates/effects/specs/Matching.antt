@@ -9,11 +9,11 @@ use Rattle.octets.specs.Runs.{equalBytes}
 use Rattle.attributes.specs.declared.Attribute.{Attribute}
 use Rattle.attributes.specs.Attributes.{attributes, valueOf}
 use Rattle.survey.specs.Types.{among, criteria}
-use Rattle.slots.specs.declared.Field.{Field}
-use Rattle.slots.specs.declared.Field.the-variants.{UserName, NasPort, FramedAddress, CallingStation, SessionId}
+use Rattle.criteria.specs.declared.Field.{Field}
+use Rattle.criteria.specs.declared.Field.the-variants.{UserName, NasPort, FramedAddress, CallingStation, SessionId}
 use Rattle.slots.specs.Slot.{live, slot, slotCount}
-use Rattle.slots.specs.Matching.{fieldBytes}
-use Rattle.slots.specs.Marks.{countTo}
+use Rattle.criteria.specs.Matching.{fieldBytes}
+use Rattle.criteria.specs.Marks.{countTo}
 
 -- the field that a type of `criteria` is compared with: 1, 5, 8, 31, else 44
 unfoldable pub fieldFor : ℕ → Field

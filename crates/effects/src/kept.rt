@@ -4,7 +4,7 @@ ghost use mathlib.Core.Bool.{true};
 ghost use mathlib.Core.List.{_++_};
 ghost use lib.ListN.{length};
 ghost use Prim.Native.Nat.{_+_, _-_, _≤_, _<_};
-ghost use Rattle.slots.specs.Matching.{listed};
+ghost use Rattle.criteria.specs.Matching.{listed};
 ghost use Rattle.survey.specs.Survey.{seenAt};
 ghost use Rattle.effects.specs.Kept.{keptPlace, keptSize, ifKept, keptNumber, keptText};
 
@@ -46,13 +46,13 @@ fn size(sizes: &[u8; 256], kind: u8) -> usize
 
 // The criteria c, and one more where the type is there.
 pub fn with(
-    c: slots::Criteria,
-    field: slots::Field,
+    c: criteria::Criteria,
+    field: criteria::Field,
     kind: u8,
     count: &[u8; 256],
     ends: &[u16; 256],
     sizes: &[u8; 256],
-) -> slots::Criteria
+) -> criteria::Criteria
     requires { ⌜ c .count < 5 ⌝ }
     ensures { λ r. ⌜ (listed r ≡ listed c ++ ifKept field kind (now (count .entry)) (now (ends .entry)) (now (sizes .entry))) × (r .count ≤ c .count + 1) ⌝ }
 {
@@ -61,8 +61,8 @@ pub fn with(
         let size = size(sizes, kind);
         let n = c.count;
         let mut list = c.list;
-        list[n] = slots::Criterion { field, at, size };
-        return slots::Criteria { count: n + 1, list };
+        list[n] = criteria::Criterion { field, at, size };
+        return criteria::Criteria { count: n + 1, list };
     }
     c
 }

@@ -4,30 +4,30 @@ mod kept; // kept.rt: what is read off the pass over the attributes
 ghost use mathlib.Core.Path.{_≡_};
 ghost use mathlib.Core.Bool.{false};
 ghost use Rattle.attributes.specs.Attributes.{attributes, any};
-ghost use Rattle.slots.specs.Matching.{listed};
+ghost use Rattle.criteria.specs.Matching.{listed};
 ghost use Rattle.survey.specs.Survey.{Surveyed};
 ghost use Rattle.survey.specs.Types.{misfitting};
 ghost use Rattle.effects.specs.Kept.{keptCriteria};
 ghost use Rattle.effects.specs.Changes.{alterationOf, changeOf};
 
 // The criteria of a request, from what the pass over its attributes kept: one for each of 1, 5, 8, 31, 44 that it has.
-pub fn criteria(count: &[u8; 256], ends: &[u16; 256], sizes: &[u8; 256]) -> slots::Criteria
+pub fn criteria(count: &[u8; 256], ends: &[u16; 256], sizes: &[u8; 256]) -> criteria::Criteria
     ensures { λ r. ⌜ listed r ≡ keptCriteria (now (count .entry)) (now (ends .entry)) (now (sizes .entry)) ⌝ }
 {
-    let none = slots::Criterion {
-        field: slots::Field::UserName,
+    let none = criteria::Criterion {
+        field: criteria::Field::UserName,
         at: 0,
         size: 0,
     };
-    let c = slots::Criteria {
+    let c = criteria::Criteria {
         count: 0,
         list: [none; 5],
     };
-    let c = kept::with(c, slots::Field::UserName, 1, count, ends, sizes);
-    let c = kept::with(c, slots::Field::NasPort, 5, count, ends, sizes);
-    let c = kept::with(c, slots::Field::FramedAddress, 8, count, ends, sizes);
-    let c = kept::with(c, slots::Field::CallingStation, 31, count, ends, sizes);
-    kept::with(c, slots::Field::SessionId, 44, count, ends, sizes)
+    let c = kept::with(c, criteria::Field::UserName, 1, count, ends, sizes);
+    let c = kept::with(c, criteria::Field::NasPort, 5, count, ends, sizes);
+    let c = kept::with(c, criteria::Field::FramedAddress, 8, count, ends, sizes);
+    let c = kept::with(c, criteria::Field::CallingStation, 31, count, ends, sizes);
+    kept::with(c, criteria::Field::SessionId, 44, count, ends, sizes)
 }
 
 // What a CoA alters. Its numbers have their length (404 does not apply).

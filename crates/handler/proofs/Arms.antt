@@ -13,10 +13,10 @@ use Rattle.attributes.specs.Attributes.{attributes, found}
 use Rattle.survey.specs.declared.Flags.{Flags}
 use Rattle.survey.specs.Types.{firstRepeated, none}
 use Rattle.survey.specs.Survey.{Surveyed}
-use Rattle.slots.specs.declared.Criterion.{Criterion}
+use Rattle.criteria.specs.declared.Criterion.{Criterion}
 use Rattle.slots.specs.Slot.{slotCount}
-use Rattle.slots.specs.Matching.{matchesAt}
-use Rattle.slots.specs.Marks.{marksAfter}
+use Rattle.criteria.specs.Matching.{matchesAt}
+use Rattle.criteria.specs.Marks.{marksAfter}
 use Rattle.sessions.specs.Change.{countMarked}
 use Rattle.causes.specs.declared.Cause as C
 use Rattle.causes.specs.declared.Cause.the-variants.{SessionNotFound, NoCause}

@@ -10,7 +10,7 @@ use lib.Dec.{eqb}
 use lib.IntN.{ℤ}
 use Rattle.slots.specs.Slot.{slotCount}
 use Rattle.slots.proofs.Count.{counted}
-use Rattle.slots.proofs.Marked.{count-most}
+use Rattle.criteria.proofs.Marked.{count-most}
 use Rattle.causes.specs.declared.Cause as C
 use Rattle.causes.specs.declared.Cause.the-variants.{SessionNotFound, NoCause}
 use Rattle.rules.specs.declared.Verdict as R

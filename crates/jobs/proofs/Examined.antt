@@ -10,9 +10,9 @@ use Rattle.attributes.specs.Attributes.{attributes, found}
 use Rattle.survey.specs.declared.Flags.{Flags}
 use Rattle.survey.specs.Types.{firstRepeated, none}
 use Rattle.survey.specs.Survey.{Surveyed}
-use Rattle.slots.specs.declared.Criterion.{Criterion}
+use Rattle.criteria.specs.declared.Criterion.{Criterion}
 use Rattle.slots.specs.Slot.{slot, slotCount}
-use Rattle.slots.specs.Matching.{matchesAt}
+use Rattle.criteria.specs.Matching.{matchesAt}
 use Rattle.slots.proofs.Count.{counted}
 use Rattle.rules.specs.Packet.{codeOf, areaOf}
 use Rattle.effects.specs.Kept.{keptCriteria}

@@ -5,7 +5,7 @@ use Prim.Native.Nat.{ℕ, _+_, _≤_, _<_}
 use lib.ListN.{replicate}
 use Rattle.md5.specs.Md5.{initial}
 use Rattle.blockwise.specs.Block.{blockCount}
-use Rattle.slots.specs.Marks.{noMarks}
+use Rattle.criteria.specs.Marks.{noMarks}
 use Rattle.chaining.specs.Words.{wordsOf}
 use Rattle.jobs.specs.declared.Job as D
 use Rattle.jobs.specs.declared.Stage as S

@@ -10,7 +10,7 @@ use lib.ListN.{length}
 use Rattle.records.specs.Record.{Session}
 use Rattle.slots.specs.Slot.{slotCount}
 use Rattle.slots.proofs.Count.{counted}
-use Rattle.slots.proofs.Marked.{count-most}
+use Rattle.criteria.proofs.Marked.{count-most}
 use Rattle.sessions.specs.declared.Inserted.{Inserted}
 use Rattle.sessions.specs.declared.Inserted.the-variants.{Slot, NotInserted}
 use Rattle.sessions.specs.declared.Removed.{Removed}

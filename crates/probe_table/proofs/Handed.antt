@@ -7,11 +7,11 @@ use Prim.Native.Nat.{ℕ}
 use lib.ListN.{length}
 use Rattle.octets.specs.Runs.{write}
 use Rattle.octets.proofs.Write.{write-whole}
-use Rattle.slots.specs.declared.Criteria.{Criteria}
+use Rattle.criteria.specs.declared.Criteria.{Criteria}
 use Rattle.slots.specs.Slot.{slotCount}
-use Rattle.slots.specs.Matching.{listed, matchesAt}
-use Rattle.slots.specs.Marks.{marksAfter}
-use Rattle.slots.proofs.Marked.{length-marks}
+use Rattle.criteria.specs.Matching.{listed, matchesAt}
+use Rattle.criteria.specs.Marks.{marksAfter}
+use Rattle.criteria.proofs.Marked.{length-marks}
 use Rattle.sessions.specs.declared.Change.{Change}
 use Rattle.sessions.specs.Change.{changeMarked, countMarked}
 use Rattle.probe_table.specs.Answers.{truth}

@@ -22,30 +22,30 @@ fn byte(s: &[u8], i: usize) -> usize
 }
 
 // The field of a number.
-fn field_of(n: usize) -> slots::Field
+fn field_of(n: usize) -> criteria::Field
     ensures { λ r. ⌜ r ≡ fieldOf n ⌝ }
 {
     if n == 0 {
-        return slots::Field::UserName;
+        return criteria::Field::UserName;
     }
     if n == 1 {
-        return slots::Field::NasPort;
+        return criteria::Field::NasPort;
     }
     if n == 2 {
-        return slots::Field::FramedAddress;
+        return criteria::Field::FramedAddress;
     }
     if n == 3 {
-        return slots::Field::CallingStation;
+        return criteria::Field::CallingStation;
     }
-    slots::Field::SessionId
+    criteria::Field::SessionId
 }
 
 // The criterion in three bytes at place i.
-fn criterion_at(s: &[u8], i: usize) -> slots::Criterion
+fn criterion_at(s: &[u8], i: usize) -> criteria::Criterion
     requires { ⌜ i < 64 ⌝ }
     ensures { λ r. ⌜ r ≡ criterionAt i (now (s .entry)) ⌝ }
 {
-    slots::Criterion {
+    criteria::Criterion {
         field: field_of(byte(s, i)),
         at: byte(s, i + 1),
         size: byte(s, i + 2),
@@ -53,7 +53,7 @@ fn criterion_at(s: &[u8], i: usize) -> slots::Criterion
 }
 
 // The criteria in the bytes s.
-pub fn criteria_of(s: &[u8]) -> slots::Criteria
+pub fn criteria_of(s: &[u8]) -> criteria::Criteria
     ensures { λ r. ⌜ r ≡ criteriaOf (now (s .entry)) ⌝ }
 {
     let a = criterion_at(s, 0);
@@ -61,7 +61,7 @@ pub fn criteria_of(s: &[u8]) -> slots::Criteria
     let c = criterion_at(s, 6);
     let d = criterion_at(s, 9);
     let e = criterion_at(s, 12);
-    slots::Criteria {
+    criteria::Criteria {
         count: s.len() / 3,
         list: [a, b, c, d, e],
     }

@@ -5,8 +5,8 @@ mod writes;
 ghost use mathlib.Core.Path.{_≡_};
 ghost use mathlib.Core.Bool.{cond};
 ghost use Rattle.slots.specs.Slot.{slotCount, slot, live};
-ghost use Rattle.slots.specs.Matching.{listed, matchesAt};
-ghost use Rattle.slots.specs.Marks.{marksAfter};
+ghost use Rattle.criteria.specs.Matching.{listed, matchesAt};
+ghost use Rattle.criteria.specs.Marks.{marksAfter};
 ghost use Rattle.probe_table.specs.Given.{criteriaOf};
 ghost use Rattle.probe_table.specs.Answers.{answer, truth, marksRoom};
 
@@ -34,7 +34,7 @@ pub extern "C" fn probe_table_live(t: &[u8], k: usize) -> u32
 pub extern "C" fn probe_table_match(t: &[u8], k: usize, p: &[u8], criteria: &[u8]) -> u32
     ensures { λ r. ⌜ r ≡ truth (matchesAt (now (p .entry)) (listed (criteriaOf (now (criteria .entry)))) (now (t .entry)) k) ⌝ }
 {
-    if slots::match_slot(t, k, p, given::criteria_of(criteria)) {
+    if criteria::match_slot(t, k, p, given::criteria_of(criteria)) {
         return 1;
     }
     0
@@ -49,7 +49,7 @@ pub extern "C" fn probe_table_marks(t: &[u8], p: &[u8], criteria: &[u8], marks: 
     if marks.len() != 64 {
         return 1;
     }
-    let m = slots::mark_all(t, p, given::criteria_of(criteria));
+    let m = criteria::mark_all(t, p, given::criteria_of(criteria));
     octets::copy(marks, 0, &m);
     0
 }

@@ -14,7 +14,7 @@ use Rattle.md5.specs.Md5.{output}
 use Rattle.signing.specs.Signing.{zeros, authenticator}
 use Rattle.blockwise.specs.Block.{hashed, hashedTo}
 use Rattle.blockwise.proofs.Stepwise.{blocks-more, blocks-all, same-hashed}
-use Rattle.slots.specs.Marks.{marksAfter}
+use Rattle.criteria.specs.Marks.{marksAfter}
 use Rattle.rules.specs.declared.Verdict as R
 use Rattle.rules.specs.declared.Verdict.the-variants as J
 use Rattle.rules.specs.Packet.{lengthOf, authOf}

@@ -7,7 +7,7 @@ use Prim.Native.Nat.{ℕ, _+_, _≤_, _<_}
 use lib.ListN.{length}
 use Rattle.blockwise.specs.Block.{blockCount, hashedTo}
 use Rattle.slots.specs.Slot.{slotCount}
-use Rattle.slots.specs.Marks.{marksAfter}
+use Rattle.criteria.specs.Marks.{marksAfter}
 use Rattle.rules.specs.declared.Verdict.{Verdict}
 use Rattle.rules.specs.Packet.{lengthOf, areaOf}
 use Rattle.rules.specs.Settings.{Settings}

@@ -12,7 +12,7 @@ use lib.Dec.{eqb, ltb}
 use lib.IntN.{ℤ}
 use lib.ListN.{set}
 use Rattle.slots.specs.Slot.{slotCount}
-use Rattle.slots.specs.Marks.{marksAfter}
+use Rattle.criteria.specs.Marks.{marksAfter}
 use Rattle.sessions.specs.Change.{countMarked}
 use Rattle.stamps.specs.Stamp.{stampOf}
 use Rattle.causes.specs.declared.Cause.the-variants.{SessionNotFound, NoCause}

@@ -10,7 +10,7 @@ use native.Mathlib.Decide.{ℕ-discrete}
 use native.Mathlib.Omega.{arith}
 use lib.ListN.{length, getD, set, List·getD-map}
 use lib.Seq.{getD-set-same, getD-set-other}
-use Rattle.slots.specs.Marks.{marksAfter}
+use Rattle.criteria.specs.Marks.{marksAfter}
 use Rattle.rules.specs.Settings.{Settings, badSecret, badName}
 use Rattle.jobs.specs.declared.Job as B
 use Rattle.jobs.specs.declared.Stage as S

@@ -11,9 +11,9 @@ use lib.Dec.{eqb}
 use lib.ListN.{length}
 use Rattle.octets.specs.Runs.{write}
 use Rattle.slots.specs.Slot.{slotCount, slot, live}
-use Rattle.slots.specs.Marks.{marksAfter, countTo}
+use Rattle.criteria.specs.Marks.{marksAfter, countTo}
 use Rattle.slots.proofs.Count.{counted}
-use Rattle.slots.proofs.Marked.{mark-at, count-same}
+use Rattle.criteria.proofs.Marked.{mark-at, count-same}
 use Rattle.slots.proofs.Places.{length-slot, slot-short, slot-written, slots-commute}
 use Rattle.sessions.specs.declared.Change.{Change}
 use Rattle.sessions.specs.Change.{changed, changeAt, marked, changeMarked, countMarked}

@@ -14,11 +14,11 @@ use Rattle.octets.proofs.Numbers.{length-beBytes}
 use Rattle.octets.proofs.Part.{byte-part, part-before, part-behind}
 use Rattle.records.specs.Record.{textField}
 use Rattle.records.proofs.Fields.{length-textField}
-use Rattle.slots.specs.declared.Criterion.{Criterion}
-use Rattle.slots.specs.declared.Field.{Field}
-use Rattle.slots.specs.declared.Field.the-variants.{UserName, NasPort, FramedAddress, CallingStation, SessionId}
+use Rattle.criteria.specs.declared.Criterion.{Criterion}
+use Rattle.criteria.specs.declared.Field.{Field}
+use Rattle.criteria.specs.declared.Field.the-variants.{UserName, NasPort, FramedAddress, CallingStation, SessionId}
 use Rattle.slots.specs.Slot.{live, within, text}
-use Rattle.slots.specs.Matching.{fieldBytes, meets, all, matches}
+use Rattle.criteria.specs.Matching.{fieldBytes, meets, all, matches}
 use Rattle.slots.proofs.Live.{within-is}
 use Rattle.slots.proofs.Kept.{live-by, live-user, live-id, live-station, live-filter}
 use Rattle.sessions.specs.declared.Alteration.{Alteration}

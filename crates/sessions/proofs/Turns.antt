@@ -10,7 +10,7 @@ use native.Mathlib.Omega.{arith}
 use lib.Dec.{eqb}
 use lib.ListN.{length, getD}
 use Rattle.slots.specs.Slot.{slotCount, slot, live}
-use Rattle.slots.specs.Marks.{countTo}
+use Rattle.criteria.specs.Marks.{countTo}
 use Rattle.slots.proofs.Count.{Counted}
 use Rattle.sessions.specs.declared.Change.{Change}
 use Rattle.sessions.specs.Change.{changeAt, marked, changeMarked, countMarked}

@@ -9,7 +9,7 @@ use Rattle.octets.specs.Numbers.{beBytes}
 use Rattle.octets.specs.Runs.{part, write}
 use Rattle.records.specs.Record.{textField}
 use Rattle.slots.specs.Slot.{live, slot}
-use Rattle.slots.specs.Marks.{countTo}
+use Rattle.criteria.specs.Marks.{countTo}
 use Rattle.sessions.specs.declared.Change.{Change}
 use Rattle.sessions.specs.declared.Change.the-variants.{End, Alter}
 use Rattle.sessions.specs.declared.Alteration.{Alteration}

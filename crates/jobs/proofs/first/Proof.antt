@@ -1,7 +1,7 @@
 -- `jobs::first` meets its contract: the words before the first block, and no marks.
 -- Assumes nothing.
 use borrow.Author.Needs.{needs}
-use Rattle.slots.specs.Marks.{noMarks}
+use Rattle.criteria.specs.Marks.{noMarks}
 use Rattle.jobs.proofs.first.Statement.{statement}
 use Rattle.jobs.proofs.first.Tie as tie
 

@@ -1,7 +1,7 @@
 -- `jobs::free` meets its contract: every field is zero.
 -- Assumes nothing.
 use mathlib.Core.Path.{refl}
-use Rattle.slots.specs.Marks.{noMarks}
+use Rattle.criteria.specs.Marks.{noMarks}
 use Rattle.jobs.proofs.free.Statement.{statement}
 use Rattle.jobs.proofs.free.Tie as tie
 

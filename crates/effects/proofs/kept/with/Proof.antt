@@ -4,7 +4,7 @@ use borrow.Author.Needs.{needs}
 use Rattle.effects.proofs.Taken.{with-none, with-there}
 use mathlib.Core.Path.{_≡_}
 use lib.ListN.{length}
-use Rattle.slots.proofs.Walk.{same-long}
+use Rattle.criteria.proofs.Walk.{same-long}
 use Rattle.effects.proofs.kept.with.Statement.{statement}
 use Rattle.effects.proofs.kept.with.Tie as tie
 
