@@ -1,4 +1,3 @@
-pub mod Forms
 pub mod Macs
 pub mod Verdicts
 pub mod Bounds

@@ -16,11 +16,12 @@ use Rattle.attributes.specs.declared.Search.the-variants.{At, Missing}
 use Rattle.attributes.specs.Attributes.{attributes, valueOf, found, firstOf, onFirst, countOf, kindIs}
 use Rattle.attributes.proofs.Searches.{only, none-any, some-any}
 use Rattle.attributes.proofs.Stands.{first-placed}
+use Rattle.packets.specs.Packet.{codeOf, lengthOf, areaOf}
+use Rattle.packets.specs.Discards.{Sized}
 use Rattle.signing.specs.Signing.{zeros, messageAuthenticator}
 use Rattle.survey.specs.declared.Flags.{Flags}
 use Rattle.survey.specs.Survey.{Surveyed, Counted, upToTwo, endOf, sizeOf}
-use Rattle.rules.specs.Packet.{codeOf, lengthOf, areaOf}
-use Rattle.rules.specs.Discards.{Sized, wrongMac, badMac}
+use Rattle.rules.specs.Discards.{wrongMac, badMac}
 
 -- a count up to two
 two-none : (n : ℕ) → upToTwo n ≡ 0 → n ≡ 0

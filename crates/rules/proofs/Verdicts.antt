@@ -3,11 +3,10 @@
 use mathlib.Core.Path.{_≡_, refl, sym, _∙_}
 use mathlib.Core.Bool.{Bool, true, false}
 use mathlib.Core.List.{List}
-use Prim.Native.Nat.{ℕ, _-_, _≤_}
-use native.Mathlib.Omega.{arith}
-use lib.ListN.{length}
+use Prim.Native.Nat.{ℕ}
 use Rattle.octets.specs.Runs.{part, equalBytes}
-use Rattle.octets.proofs.Part.{length-part}
+use Rattle.packets.specs.Packet.{codeOf, areaOf}
+use Rattle.packets.specs.Discards.{formOf, Sized}
 use Rattle.signing.specs.Signing.{zeros, authenticator}
 use Rattle.survey.specs.declared.Flags.{Flags}
 use Rattle.survey.specs.Survey.{Surveyed}
@@ -20,9 +19,8 @@ use Rattle.causes.specs.declared.Cause.{Cause}
 use Rattle.causes.specs.Causes.{causeOf}
 use Rattle.rules.specs.declared.Verdict as D
 use Rattle.rules.specs.declared.Verdict.the-variants.{Discarded, Stale, Nak, Passed}
-use Rattle.rules.specs.Packet.{codeOf, areaOf}
 use Rattle.rules.specs.Settings.{Settings}
-use Rattle.rules.specs.Discards.{formOf, Sized, signedBy, badMac}
+use Rattle.rules.specs.Discards.{signedBy, badMac}
 use Rattle.rules.specs.Verdict.{applies, nakOr, freshVerdict, checkVerdict, verdictOf}
 
 -- s′ is s as the machine holds it
@@ -34,14 +32,6 @@ module _ (c x : Cause) (s s′ : ℤ) (same : s′ ≡ s) (is : c ≡ x) where
   pub nak-passes : applies x ≡ false → Passed s′ ≡ nakOr s c
   unfolding nakOr
   nak-passes h = rw (same, is, h)
-
--- the area where it lies
-pub area-of : (s p : List ℕ) (n : ℕ) → s ≡ part 20 (n - 20) p → Sized p n → s ≡ areaOf p
-area-of s p n e z = e ∙ rw (z .is)
-
--- the area of a packet that does not meet D1 is no longer than 4,096 bytes
-pub area-short : (s p : List ℕ) (n : ℕ) → s ≡ part 20 (n - 20) p → Sized p n → length s ≤ 4096
-area-short s p n e z = rw (e, length-part 20 (n - 20) p (omega (arith, z .low, z .given))) (omega (arith, z .high))
 
 -- D4: what the comparison says
 pub signed-law : (secret p : List ℕ) (n : ℕ) (r : Bool) → Sized p n → r ≡ equalBytes (part 4 16 p) (authenticator zeros p n secret) → r ≡ signedBy secret p

@@ -1,4 +1,3 @@
-pub mod Packet
 pub mod Settings
 pub mod Discards
 pub mod Verdict

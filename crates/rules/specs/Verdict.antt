@@ -5,6 +5,8 @@ use mathlib.Core.List.{List}
 use Prim.Native.Nat.{ℕ}
 use lib.Dec.{eqb}
 use lib.IntN.{ℤ}
+use Rattle.packets.specs.Packet.{codeOf, areaOf}
+use Rattle.packets.specs.Discards.{formOf}
 use Rattle.stamps.specs.declared.Stamp as S
 use Rattle.stamps.specs.declared.Stamp.the-variants.{Usable, Unusable}
 use Rattle.stamps.specs.Stamp.{stampOf, stale, skewOf}
@@ -14,9 +16,8 @@ use Rattle.causes.specs.Causes.{causeOf}
 use Rattle.signing.specs.Signing.{zeros}
 use Rattle.rules.specs.declared.Verdict as D
 use Rattle.rules.specs.declared.Verdict.the-variants.{Discarded, Stale, Nak, Passed}
-use Rattle.rules.specs.Packet.{codeOf, areaOf}
 use Rattle.rules.specs.Settings.{Settings}
-use Rattle.rules.specs.Discards.{formOf, badMac}
+use Rattle.rules.specs.Discards.{badMac}
 
 -- a cause applies
 abbrev pub applies : C.Cause → Bool

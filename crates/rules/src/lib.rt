@@ -4,13 +4,12 @@ pub mod mac; // mac.rt: D5
 mod nak; // nak.rt: causes 1 to 6
 
 ghost use mathlib.Core.Path.{_≡_};
-ghost use mathlib.Core.Bool.{true, false, _||_};
-ghost use Prim.Native.Nat.{_<_};
-ghost use lib.Dec.{eqb};
+ghost use mathlib.Core.Bool.{true};
+ghost use Rattle.packets.specs.Packet.{codeOf, areaOf};
+ghost use Rattle.packets.specs.Discards.{Sized};
 ghost use Rattle.survey.specs.Survey.{Surveyed};
-ghost use Rattle.rules.specs.Packet.{codeOf, areaOf};
 ghost use Rattle.rules.specs.Settings.{settings};
-ghost use Rattle.rules.specs.Discards.{badLength, formOf, Sized, signedBy};
+ghost use Rattle.rules.specs.Discards.{signedBy};
 ghost use Rattle.rules.specs.Verdict.{checkVerdict, verdictOf};
 
 // Document 01's answers: discarded by a number, no stamp usable; discarded by D6 for a stale stamp; NAK with a cause; passed. The last three tell the skew.
@@ -19,66 +18,6 @@ pub enum Verdict {
     Stale(i64),
     Nak(causes::Cause, i64),
     Passed(i64),
-}
-
-// Disconnect-Request or CoA-Request.
-fn request_code(code: u8) -> bool
-    ensures { λ r. ⌜ r ≡ eqb code 40 || eqb code 43 ⌝ }
-{
-    if code == 40 {
-        return true;
-    }
-    code == 43
-}
-
-// D1: fewer than 20 bytes given; Length below 20, above 4,096 or above the bytes given.
-pub fn bad_length(p: &[u8]) -> bool
-    ensures { λ r. ⌜ r ≡ badLength (now (p .entry)) ⌝ }
-{
-    if p.len() < 20 {
-        return true;
-    }
-    let n = octets::be16(p, 2) as usize;
-    if n < 20 {
-        return true;
-    }
-    if 4096 < n {
-        return true;
-    }
-    p.len() < n
-}
-
-// D1, D2 or D3, the first that applies; 0 where none does.
-pub fn form(p: &[u8]) -> u8
-    ensures { λ r. ⌜ r ≡ formOf (now (p .entry)) ⌝ }
-{
-    if bad_length(p) {
-        return 1;
-    }
-    let n = sized(p);
-    if request_code(p[0]) {
-        if attributes::tiles(octets::slice(p, 20, n - 20)) {
-            return 0;
-        }
-        return 3;
-    }
-    2
-}
-
-// The Length of a packet that does not meet D1.
-pub fn sized(p: &[u8]) -> usize
-    requires { ⌜ badLength (now p) ≡ false ⌝ }
-    ensures { λ r. ⌜ Sized (now (p .entry)) r ⌝ }
-{
-    octets::be16(p, 2) as usize
-}
-
-// The Length of a packet that meets none of D1 to D3.
-pub fn length_of(p: &[u8]) -> usize
-    requires { ⌜ formOf (now p) ≡ 0 ⌝ }
-    ensures { λ r. ⌜ Sized (now (p .entry)) r ⌝ }
-{
-    sized(p)
 }
 
 // D4 to D6 and causes 1 to 6 of a request that meets none of D1 to D3; signed says that D4 does not apply.
@@ -149,11 +88,11 @@ fn check_signed(p: &[u8], n: usize, secret: &[u8], address: u32, name: &[u8], cl
 pub fn judge(p: &[u8], secret: &[u8], address: u32, name: &[u8], clock: u32) -> Verdict
     ensures { λ r. ⌜ r ≡ verdictOf (settings (now (secret .entry)) address (now (name .entry))) (signedBy (now (secret .entry)) (now (p .entry))) (now (p .entry)) clock ⌝ }
 {
-    let d = form(p);
+    let d = packets::form(p);
     if d != 0 {
         return Verdict::Discarded(d);
     }
-    let n = length_of(p);
+    let n = packets::length_of(p);
     if signing::request_signed(p, n, secret) {
         return check_signed(p, n, secret, address, name, clock);
     }

@@ -2,10 +2,11 @@
 ghost use mathlib.Core.Path.{_≡_};
 ghost use Prim.Native.Nat.{_<_};
 ghost use lib.ListN.{length};
+ghost use Rattle.packets.specs.Packet.{codeOf, areaOf};
+ghost use Rattle.packets.specs.Discards.{Sized};
 ghost use Rattle.signing.specs.Signing.{zeros};
 ghost use Rattle.survey.specs.Survey.{Surveyed};
-ghost use Rattle.rules.specs.Packet.{codeOf, areaOf};
-ghost use Rattle.rules.specs.Discards.{Sized, badMac};
+ghost use Rattle.rules.specs.Discards.{badMac};
 use survey::Flags;
 
 fn wide(x: u16) -> usize

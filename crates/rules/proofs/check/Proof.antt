@@ -1,7 +1,8 @@
 -- `rules::check` meets its contract: each return is the first of D4 to D6 that applies, or the causes.
 -- Assumes nothing.
 use borrow.Author.Needs.{needs}
-use Rattle.rules.proofs.Verdicts.{area-of, surveyed-at, check-unsigned, check-mac, check-unusable, check-stale, check-fresh}
+use Rattle.packets.proofs.Areas.{area-of}
+use Rattle.rules.proofs.Verdicts.{surveyed-at, check-unsigned, check-mac, check-unusable, check-stale, check-fresh}
 use Rattle.rules.proofs.check.Statement.{statement}
 use Rattle.rules.proofs.check.Tie as tie
 

@@ -2,7 +2,8 @@
 -- Assumes nothing.
 use mathlib.Core.Path.{refl}
 use borrow.Author.Needs.{needs}
-use Rattle.rules.proofs.Verdicts.{area-of, area-short, surveyed-of}
+use Rattle.packets.proofs.Areas.{area-of, area-short}
+use Rattle.rules.proofs.Verdicts.{surveyed-of}
 use Rattle.survey.specs.Survey.{zeros}
 use Rattle.rules.proofs.check_signed.Statement.{statement}
 use Rattle.rules.proofs.check_signed.Tie as tie

@@ -11,8 +11,8 @@ use lib.ListN.{length}
 use Rattle.octets.specs.Runs.{part}
 use Rattle.octets.specs.Numbers.{be}
 use Rattle.attributes.specs.Attributes.{tiled}
-use Rattle.rules.specs.Packet.{codeOf, lengthOf}
-use Rattle.rules.specs.Discards.{badLength, badCode, badAttributes, formOf, Sized}
+use Rattle.packets.specs.Packet.{codeOf, lengthOf}
+use Rattle.packets.specs.Discards.{badLength, badCode, badAttributes, formOf, Sized}
 
 -- D1 by each of its four parts
 pub length-short : (p : List ℕ) → length p < 20 → true ≡ badLength p

@@ -1,9 +1,9 @@
--- `rules::form` meets its contract: each return is the first of D1 to D3 that applies.
+-- `packets::form` meets its contract: each return is the first of D1 to D3 that applies.
 -- Assumes nothing.
 use borrow.Author.Needs.{needs}
-use Rattle.rules.proofs.Forms.{form-length, form-code, form-tiled, form-untiled, judged-good}
-use Rattle.rules.proofs.form.Statement.{statement}
-use Rattle.rules.proofs.form.Tie as tie
+use Rattle.packets.proofs.Forms.{form-length, form-code, form-tiled, form-untiled, judged-good}
+use Rattle.packets.proofs.form.Statement.{statement}
+use Rattle.packets.proofs.form.Tie as tie
 
 returns : tie.Need-returns
 returns c = search (needs, form-length)

@@ -1,9 +1,9 @@
--- `rules::length_of` meets its contract: none of D1 to D3 applies, so D1 does not.
+-- `packets::length_of` meets its contract: none of D1 to D3 applies, so D1 does not.
 -- Assumes nothing.
 use borrow.Author.Needs.{needs}
-use Rattle.rules.proofs.Forms.{form-good}
-use Rattle.rules.proofs.length_of.Statement.{statement}
-use Rattle.rules.proofs.length_of.Tie as tie
+use Rattle.packets.proofs.Forms.{form-good}
+use Rattle.packets.proofs.length_of.Statement.{statement}
+use Rattle.packets.proofs.length_of.Tie as tie
 
 sized-requires : tie.Need-sized-requires
 sized-requires c κs = search (needs, form-good)

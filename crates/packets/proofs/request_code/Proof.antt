@@ -1,8 +1,8 @@
--- `rules::request_code` meets its contract, by its two tests.
+-- `packets::request_code` meets its contract, by its two tests.
 -- Assumes nothing.
 use borrow.Author.Tests.{eq-eqb, ne-eqb}
-use Rattle.rules.proofs.request_code.Statement.{statement}
-use Rattle.rules.proofs.request_code.Tie as tie
+use Rattle.packets.proofs.request_code.Statement.{statement}
+use Rattle.packets.proofs.request_code.Tie as tie
 
 returns : tie.Need-returns
 returns c = rw (eq-eqb _ _ (c .if1 .taken))

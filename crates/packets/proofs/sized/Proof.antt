@@ -1,9 +1,9 @@
--- `rules::sized` meets its contract: D1 does not apply.
+-- `packets::sized` meets its contract: D1 does not apply.
 -- Assumes nothing.
 use borrow.Author.Needs.{needs}
-use Rattle.rules.proofs.Forms.{good-head, good-sized}
-use Rattle.rules.proofs.sized.Statement.{statement}
-use Rattle.rules.proofs.sized.Tie as tie
+use Rattle.packets.proofs.Forms.{good-head, good-sized}
+use Rattle.packets.proofs.sized.Statement.{statement}
+use Rattle.packets.proofs.sized.Tie as tie
 
 be16-requires : tie.Need-be16-requires
 be16-requires c κs = search (needs, good-head)

@@ -1,9 +1,9 @@
--- `rules::bad_length` meets its contract, by its four tests.
+-- `packets::bad_length` meets its contract, by its four tests.
 -- Assumes nothing.
 use borrow.Author.Needs.{needs}
-use Rattle.rules.proofs.Forms.{length-short, length-low, length-high, length-cut}
-use Rattle.rules.proofs.bad_length.Statement.{statement}
-use Rattle.rules.proofs.bad_length.Tie as tie
+use Rattle.packets.proofs.Forms.{length-short, length-low, length-high, length-cut}
+use Rattle.packets.proofs.bad_length.Statement.{statement}
+use Rattle.packets.proofs.bad_length.Tie as tie
 
 returns : tie.Need-returns
 returns c = search (needs, length-short)
