@@ -13,7 +13,7 @@ use Rattle.slots.specs.Slot.{slotCount}
 use Rattle.sessions.specs.declared.Change.{Change}
 use Rattle.sessions.specs.Change.{changeMarked, countMarked}
 use Rattle.causes.specs.declared.Cause.the-variants.{SessionNotFound, NoCause}
-use Rattle.rules.specs.Packet.{codeOf, areaOf}
+use Rattle.packets.specs.Packet.{codeOf, areaOf}
 use Rattle.reply.specs.Reply.{replyLength, replyOf}
 use Rattle.effects.specs.Changes.{changeOf}
 use Rattle.answers.specs.declared.Answer as D

@@ -9,7 +9,7 @@ use lib.IntN.{ℤ}
 use Rattle.slots.specs.Slot.{slotCount}
 use Rattle.sessions.specs.Change.{changeMarked, countMarked}
 use Rattle.causes.specs.declared.Cause.the-variants.{SessionNotFound, NoCause}
-use Rattle.rules.specs.Packet.{codeOf, areaOf}
+use Rattle.packets.specs.Packet.{codeOf, areaOf}
 use Rattle.reply.specs.Reply.{replyLength}
 use Rattle.effects.specs.Changes.{changeOf}
 use Rattle.answers.specs.declared.Answer as D

@@ -10,7 +10,7 @@ use Rattle.md5.specs.Md5.{output}
 use Rattle.md5.proofs.After.{length-output}
 use Rattle.blockwise.specs.Block.{hashed}
 use Rattle.signing.proofs.Pieces.{compared}
-use Rattle.rules.specs.Packet.{authOf}
+use Rattle.packets.specs.Packet.{authOf}
 use Rattle.chaining.specs.Words.{wordsOf, hashState}
 
 pub words-after : (w v p secret : List ℕ) (k n : ℕ) (before after : State) → before ≡ hashState w → after ≡ hashed before k p n secret → v ≡ wordsOf after → v ≡ wordsOf (hashed (hashState w) k p n secret)

@@ -5,7 +5,7 @@ ghost use lib.ListN.{length};
 ghost use Rattle.octets.specs.Runs.{equalBytes};
 ghost use Rattle.md5.specs.Md5.{output};
 ghost use Rattle.blockwise.specs.Block.{blockCount, hashed};
-ghost use Rattle.rules.specs.Packet.{authOf};
+ghost use Rattle.packets.specs.Packet.{authOf};
 ghost use Rattle.chaining.specs.Words.{wordsOf, hashState};
 
 fn state_of(words: [u32; 4]) -> md5::State

@@ -7,7 +7,7 @@ use Prim.Native.Nat.{ℕ}
 use lib.Dec.{eqb}
 use lib.ListN.{length}
 use Rattle.rules.specs.Settings.{Settings}
-use Rattle.rules.specs.Discards.{formOf}
+use Rattle.packets.specs.Discards.{formOf}
 use Rattle.scheduler.specs.declared.Scheduler as D
 use Rattle.scheduler.specs.Scheduler.{settingsOf}
 use Rattle.scheduler.specs.Refusals.{openRefusal, stepRefusal, dropRefusal}

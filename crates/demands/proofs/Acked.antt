@@ -11,9 +11,10 @@ use Rattle.causes.specs.declared.Cause.the-variants.{SessionNotFound, NoCause}
 use Rattle.causes.specs.Causes.{causeOf}
 use Rattle.rules.specs.declared.Verdict as R
 use Rattle.rules.specs.declared.Verdict.the-variants as J
-use Rattle.rules.specs.Packet.{codeOf, areaOf}
+use Rattle.packets.specs.Packet.{codeOf, areaOf}
 use Rattle.rules.specs.Settings.{Settings}
-use Rattle.rules.specs.Discards.{formOf, signedBy}
+use Rattle.packets.specs.Discards.{formOf}
+use Rattle.rules.specs.Discards.{signedBy}
 use Rattle.rules.specs.Verdict.{checkVerdict, verdictOf}
 use Rattle.effects.specs.Matching.{matchCount}
 use Rattle.answers.specs.declared.Answer.the-variants as A

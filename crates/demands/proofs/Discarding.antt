@@ -16,9 +16,10 @@ use Rattle.causes.specs.declared.Cause.{Cause}
 use Rattle.causes.specs.Causes.{causeOf}
 use Rattle.rules.specs.declared.Verdict as R
 use Rattle.rules.specs.declared.Verdict.the-variants as J
-use Rattle.rules.specs.Packet.{codeOf, areaOf}
+use Rattle.packets.specs.Packet.{codeOf, areaOf}
 use Rattle.rules.specs.Settings.{Settings}
-use Rattle.rules.specs.Discards.{formOf, badLength, badCode, badAttributes, badMac}
+use Rattle.packets.specs.Discards.{formOf, badLength, badCode, badAttributes}
+use Rattle.rules.specs.Discards.{badMac}
 use Rattle.rules.specs.Verdict.{applies, nakOr, freshVerdict, stampVerdict, checkVerdict, verdictOf}
 
 -- the number of a discard is one of these

@@ -14,7 +14,7 @@ use Rattle.sessions.specs.Change.{countMarked}
 use Rattle.causes.specs.declared.Cause.the-variants.{SessionNotFound}
 use Rattle.rules.specs.declared.Verdict as R
 use Rattle.rules.specs.declared.Verdict.the-variants as J
-use Rattle.rules.specs.Packet.{areaOf}
+use Rattle.packets.specs.Packet.{areaOf}
 use Rattle.rules.specs.Settings.{Settings}
 use Rattle.rules.specs.Verdict.{checkVerdict}
 use Rattle.answers.specs.declared.Answer as D

@@ -9,11 +9,12 @@ use lib.Dec.{eqb}
 use Rattle.causes.specs.declared.Cause.{Cause}
 use Rattle.rules.specs.declared.Verdict as R
 use Rattle.rules.specs.declared.Verdict.the-variants as J
-use Rattle.rules.specs.Packet.{lengthOf}
+use Rattle.packets.specs.Packet.{lengthOf}
 use Rattle.rules.specs.Settings.{Settings}
-use Rattle.rules.specs.Discards.{formOf, Sized, signedBy}
+use Rattle.packets.specs.Discards.{formOf, Sized}
+use Rattle.rules.specs.Discards.{signedBy}
 use Rattle.rules.specs.Verdict.{checkVerdict, verdictOf}
-use Rattle.rules.proofs.Forms.{good-sized, form-good}
+use Rattle.packets.proofs.Forms.{good-sized, form-good}
 use Rattle.reply.specs.Reply.{replyLength}
 use Rattle.answers.specs.declared.Answer.the-variants as A
 use Rattle.handler.specs.Refusals.{refusalOf}

@@ -15,7 +15,7 @@ use Rattle.sessions.specs.Change.{changed}
 use Rattle.sessions.specs.Change as S
 use Rattle.causes.specs.declared.Cause.{Cause}
 use Rattle.causes.proofs.Passed.{filter-first}
-use Rattle.rules.specs.Packet.{codeOf, lengthOf, areaOf}
+use Rattle.packets.specs.Packet.{codeOf, lengthOf, areaOf}
 use Rattle.rules.specs.Settings.{Settings}
 use Rattle.rules.specs.Verdict.{verdictOf}
 use Rattle.rules.specs.Discards.{signedBy}

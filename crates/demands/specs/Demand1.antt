@@ -15,7 +15,8 @@ use Rattle.sessions.specs.Session.{insertAnswer, insertTable, removeAnswer, rem
 use Rattle.sessions.specs.declared.Inserted.the-variants.{NotInserted}
 use Rattle.sessions.specs.declared.Removed.the-variants.{NotRemoved}
 use Rattle.rules.specs.Settings.{Settings}
-use Rattle.rules.specs.Discards.{formOf, signedBy}
+use Rattle.packets.specs.Discards.{formOf}
+use Rattle.rules.specs.Discards.{signedBy}
 use Rattle.rules.specs.Verdict.{verdictOf}
 use Rattle.rules.specs.declared.Verdict.the-variants as J
 use Rattle.answers.specs.declared.Answer.the-variants as A

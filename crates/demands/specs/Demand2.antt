@@ -18,9 +18,10 @@ use Rattle.slots.specs.Slot.{slotCount, slot, live, nasPort, framedAddress, ses
 use Rattle.sessions.specs.Change.{altered}
 use Rattle.causes.specs.declared.Cause.{Cause}
 use Rattle.causes.specs.declared.Cause.the-variants.{NoCause}
-use Rattle.rules.specs.Packet.{codeOf, identifierOf, lengthOf, areaOf}
+use Rattle.packets.specs.Packet.{codeOf, identifierOf, lengthOf, areaOf}
 use Rattle.rules.specs.Settings.{Settings}
-use Rattle.rules.specs.Discards.{formOf, signedBy, badMac}
+use Rattle.packets.specs.Discards.{formOf}
+use Rattle.rules.specs.Discards.{signedBy, badMac}
 use Rattle.rules.specs.Verdict.{verdictOf}
 use Rattle.reply.specs.Reply.{statePart, causePart, proxyPart, macPart, replyMac, replyOf}
 use Rattle.effects.specs.Matching.{matchesIn, matchCount}

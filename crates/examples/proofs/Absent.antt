@@ -12,7 +12,7 @@ use Rattle.attributes.specs.Attributes.{attributes, any, found, firstOf, onFirs
 use Rattle.attributes.proofs.Searches.{any-none, only}
 use Rattle.signing.specs.Signing.{zeros}
 use Rattle.causes.specs.declared.Cause.{Cause}
-use Rattle.rules.specs.Packet.{areaOf}
+use Rattle.packets.specs.Packet.{areaOf}
 use Rattle.rules.specs.Discards.{wrongMac, badMac}
 use Rattle.reply.specs.Reply.{ifFound, statePart, causePart, proxyPart, bodyOf, macPart, replyLength}
 

@@ -17,11 +17,12 @@ use Rattle.stamps.specs.declared.Stamp.the-variants.{Usable}
 use Rattle.stamps.specs.Stamp.{stampOf, stale, skewOf}
 use Rattle.causes.specs.declared.Cause.the-variants.{MissingAttribute}
 use Rattle.rules.specs.declared.Verdict.the-variants as J
-use Rattle.rules.specs.Packet.{lengthOf, areaOf}
+use Rattle.packets.specs.Packet.{lengthOf, areaOf}
 use Rattle.rules.specs.Settings.{Settings}
-use Rattle.rules.specs.Discards.{badLength, badCode, badAttributes, formOf, signedBy}
+use Rattle.packets.specs.Discards.{badLength, badCode, badAttributes, formOf}
+use Rattle.rules.specs.Discards.{signedBy}
 use Rattle.rules.specs.Verdict.{nakOr, freshVerdict, checkVerdict, verdictOf}
-use Rattle.rules.proofs.Forms.{good-sized}
+use Rattle.packets.proofs.Forms.{good-sized}
 use Rattle.reply.specs.Reply.{asCame, causePart, proxiesIn, proxyPart, replyLength}
 use Rattle.replies.proofs.Sums.{first-size}
 use Rattle.replies.proofs.Judged.{stamp-six}

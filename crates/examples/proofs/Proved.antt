@@ -14,9 +14,9 @@ use Rattle.attributes.specs.Attributes.{stepAt, walkFrom}
 use Rattle.blockwise.specs.Block.{blockCount}
 use Rattle.slots.specs.Slot.{live, within}
 use Rattle.stamps.specs.Stamp.{stale, skewOf}
-use Rattle.rules.specs.Packet.{lengthOf}
+use Rattle.packets.specs.Packet.{lengthOf}
 use Rattle.rules.specs.Settings.{Settings}
-use Rattle.rules.specs.Discards.{badLength, badCode, badAttributes, formOf}
+use Rattle.packets.specs.Discards.{badLength, badCode, badAttributes, formOf}
 use Rattle.rules.specs.Verdict.{verdictOf}
 use Rattle.examples.specs.Marked.{Marked}
 use Rattle.examples.proofs.Echoed.{echo}

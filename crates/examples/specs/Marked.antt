@@ -15,9 +15,10 @@ use Rattle.stamps.specs.declared.Stamp.the-variants.{Usable}
 use Rattle.stamps.specs.Stamp.{stampOf, stale, skewOf}
 use Rattle.causes.specs.declared.Cause.the-variants.{MissingAttribute, SessionNotFound}
 use Rattle.rules.specs.declared.Verdict.the-variants.{Discarded, Stale}
-use Rattle.rules.specs.Packet.{codeOf, identifierOf, lengthOf, areaOf}
+use Rattle.packets.specs.Packet.{codeOf, identifierOf, lengthOf, areaOf}
 use Rattle.rules.specs.Settings.{Settings}
-use Rattle.rules.specs.Discards.{badLength, badCode, signedBy}
+use Rattle.packets.specs.Discards.{badLength, badCode}
+use Rattle.rules.specs.Discards.{signedBy}
 use Rattle.rules.specs.Verdict.{freshVerdict, stampVerdict, verdictOf}
 use Rattle.reply.specs.Reply.{proxyPart, replyAuth}
 use Rattle.answers.specs.declared.Answer.the-variants.{Nak}

@@ -10,9 +10,10 @@ use lib.Dec.{eqb}
 use Rattle.octets.specs.Runs.{equalBytes}
 use Rattle.signing.specs.Signing.{authenticator}
 use Rattle.causes.specs.declared.Cause.{Cause}
-use Rattle.rules.specs.Packet.{codeOf, identifierOf, lengthOf, authOf}
+use Rattle.packets.specs.Packet.{codeOf, identifierOf, lengthOf, authOf}
 use Rattle.rules.specs.Verdict.{applies}
-use Rattle.rules.specs.Discards.{badLength, badAttributes, formOf, badMac, Sized}
+use Rattle.packets.specs.Discards.{badLength, badAttributes, formOf, Sized}
+use Rattle.rules.specs.Discards.{badMac}
 use Rattle.reply.specs.Reply.{bodyOf, replyLength, headOf, replyOf}
 use Rattle.reply.proofs.Lengths.{length-auth}
 use Rattle.replies.proofs.Back.{maced, reply-is, length-is, reply-code, reply-identifier}

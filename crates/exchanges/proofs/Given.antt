@@ -11,7 +11,7 @@ use Rattle.attributes.specs.declared.Attribute.{Attribute}
 use Rattle.attributes.specs.Attributes.{attributes, valueOf}
 use Rattle.signing.specs.Signing.{zeros}
 use Rattle.signing.proofs.Messages.{length-messageAuthenticator}
-use Rattle.rules.specs.Packet.{areaOf}
+use Rattle.packets.specs.Packet.{areaOf}
 use Rattle.frames.proofs.Packets.{valued, packet, packetLength, packetMac}
 use Rattle.replies.proofs.Readback.{signed-area}
 use Rattle.replies.proofs.Trailing.{trailing, trailer, trailing-attributes, trailing-value}

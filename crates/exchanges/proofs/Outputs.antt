@@ -10,8 +10,9 @@ use Rattle.octets.specs.Runs.{part}
 use Rattle.octets.proofs.Part.{part-whole, part-written}
 use Rattle.octets.proofs.Write.{length-write}
 use Rattle.signing.specs.Signing.{zeros}
-use Rattle.rules.specs.Packet.{lengthOf}
-use Rattle.rules.specs.Discards.{formOf, Sized, signedBy, badMac}
+use Rattle.packets.specs.Packet.{lengthOf}
+use Rattle.packets.specs.Discards.{formOf, Sized}
+use Rattle.rules.specs.Discards.{signedBy, badMac}
 use Rattle.frames.proofs.Packets.{length-signed, packet-low}
 use Rattle.replies.proofs.Readback.{head-four, signed-length}
 use Rattle.requests.specs.Writer.{Draft, badGiven, writeRefusal, requestLength, requestOf, writeOutput}

@@ -10,8 +10,9 @@ use Rattle.octets.proofs.Numbers.{be-part}
 use Rattle.octets.proofs.Part.{part-part, byte-part}
 use Rattle.signing.specs.Signing.{messageAuthenticator}
 use Rattle.signing.proofs.Messages.{Alike, same-first, same-authenticator, same-withAuth}
-use Rattle.rules.specs.Packet.{codeOf, lengthOf, authOf, areaOf}
-use Rattle.rules.specs.Discards.{badLength, badCode, badAttributes, formOf, Sized, signedBy, wrongMac, badMac}
+use Rattle.packets.specs.Packet.{codeOf, lengthOf, authOf, areaOf}
+use Rattle.packets.specs.Discards.{badLength, badCode, badAttributes, formOf, Sized}
+use Rattle.rules.specs.Discards.{signedBy, wrongMac, badMac}
 
 -- p and t have the same first n bytes, and n is p's Length
 module _ (p t : List ℕ) (n : ℕ) (sized : Sized p n) (more : n ≤ length t) (same : part 0 n t ≡ part 0 n p) where

@@ -9,7 +9,8 @@ use Rattle.octets.specs.Numbers.{beBytes}
 use Rattle.attributes.specs.Attributes.{attributes, tiled, any, kindIs}
 use Rattle.signing.specs.Signing.{zeros}
 use Rattle.signing.proofs.Messages.{length-zeros}
-use Rattle.rules.specs.Discards.{badCode, formOf, signedBy, badMac}
+use Rattle.packets.specs.Discards.{badCode, formOf}
+use Rattle.rules.specs.Discards.{signedBy, badMac}
 use Rattle.frames.specs.Rooms.{macRoom}
 use Rattle.frames.proofs.Packets.{valued, packet, packetLength, packetMac, packetAuth, signedPacket}
 use Rattle.replies.proofs.Plain.{Plain}

@@ -22,7 +22,7 @@ use Rattle.causes.specs.declared.Cause as C
 use Rattle.causes.specs.declared.Cause.the-variants.{SessionNotFound, NoCause}
 use Rattle.rules.specs.declared.Verdict as R
 use Rattle.rules.specs.declared.Verdict.the-variants as J
-use Rattle.rules.specs.Packet.{codeOf, areaOf}
+use Rattle.packets.specs.Packet.{codeOf, areaOf}
 use Rattle.reply.specs.Reply.{replyLength, replyOf}
 use Rattle.effects.specs.Kept.{keptCriteria}
 use Rattle.effects.specs.Matching.{matchCount}

@@ -15,11 +15,12 @@ use Rattle.causes.specs.declared.Cause as C
 use Rattle.causes.specs.declared.Cause.the-variants.{SessionNotFound, NoCause}
 use Rattle.rules.specs.declared.Verdict as R
 use Rattle.rules.specs.declared.Verdict.the-variants as J
-use Rattle.rules.specs.Packet.{lengthOf, areaOf}
+use Rattle.packets.specs.Packet.{lengthOf, areaOf}
 use Rattle.rules.specs.Settings.{Settings}
-use Rattle.rules.specs.Discards.{formOf, signedBy}
+use Rattle.packets.specs.Discards.{formOf}
+use Rattle.rules.specs.Discards.{signedBy}
 use Rattle.rules.specs.Verdict.{checkVerdict, verdictOf}
-use Rattle.rules.proofs.Forms.{good-sized, form-good}
+use Rattle.packets.proofs.Forms.{good-sized, form-good}
 use Rattle.reply.specs.Reply.{replyLength}
 use Rattle.effects.specs.Matching.{matchesIn, matchCount}
 use Rattle.answers.specs.declared.Answer as D

@@ -14,7 +14,8 @@ use Rattle.slots.specs.Slot.{slotCount}
 use Rattle.rules.specs.declared.Verdict as R
 use Rattle.rules.specs.declared.Verdict.the-variants as J
 use Rattle.rules.specs.Settings.{Settings, badSecret, badName}
-use Rattle.rules.specs.Discards.{formOf, Sized, signedBy}
+use Rattle.packets.specs.Discards.{formOf, Sized}
+use Rattle.rules.specs.Discards.{signedBy}
 use Rattle.rules.specs.Verdict.{checkVerdict, verdictOf}
 use Rattle.rules.proofs.Verdicts.{judge-form, judge-signed, judge-unsigned}
 use Rattle.answers.specs.declared.Answer as D

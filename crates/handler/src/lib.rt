@@ -45,11 +45,11 @@ fn judged(
     ensures { λ r. ⌜ now (t .exit) ≡ tableAs (now (p .entry)) (now (t .entry)) r ⌝ }
     ensures { λ r. ⌜ now (reply .exit) ≡ replyAs (now (secret .entry)) (now (p .entry)) (now (reply .entry)) r ⌝ }
 {
-    let d = rules::form(p);
+    let d = packets::form(p);
     if d != 0 {
         return answers::Answer::Discarded(d);
     }
-    let n = rules::length_of(p);
+    let n = packets::length_of(p);
     if signing::request_signed(p, n, secret) {
         return passed::signed(t, n, secret, address, name, reply, p, clock);
     }

@@ -8,7 +8,7 @@ use Rattle.octets.specs.Runs.{equalBytes}
 use Rattle.md5.specs.Md5.{output}
 use Rattle.rules.specs.declared.Verdict as R
 use Rattle.rules.specs.declared.Verdict.the-variants as J
-use Rattle.rules.specs.Packet.{authOf}
+use Rattle.packets.specs.Packet.{authOf}
 use Rattle.rules.specs.Settings.{Settings}
 use Rattle.rules.specs.Verdict.{checkVerdict}
 use Rattle.answers.specs.declared.Answer as D

@@ -18,8 +18,8 @@ use Rattle.survey.specs.Survey.{Surveyed, sizeOf}
 use Rattle.survey.proofs.Repeats.{at-most-once}
 use Rattle.stamps.specs.Stamp.{skewOf}
 use Rattle.causes.specs.declared.Cause.{Cause}
-use Rattle.rules.specs.Packet.{codeOf, areaOf}
-use Rattle.rules.specs.Discards.{formOf, Sized}
+use Rattle.packets.specs.Packet.{codeOf, areaOf}
+use Rattle.packets.specs.Discards.{formOf, Sized}
 use Rattle.reply.specs.Reply.{replyLength}
 use Rattle.replies.proofs.Fitting.{reply-short}
 use Rattle.replies.proofs.Judged.{stamp-six}

@@ -14,7 +14,7 @@ use Rattle.criteria.specs.declared.Criterion.{Criterion}
 use Rattle.slots.specs.Slot.{slot, slotCount}
 use Rattle.criteria.specs.Matching.{matchesAt}
 use Rattle.slots.proofs.Count.{counted}
-use Rattle.rules.specs.Packet.{codeOf, areaOf}
+use Rattle.packets.specs.Packet.{codeOf, areaOf}
 use Rattle.effects.specs.Kept.{keptCriteria}
 use Rattle.effects.specs.Matching.{matchesIn}
 use Rattle.effects.proofs.Asked.{kept-match}

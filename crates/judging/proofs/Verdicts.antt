@@ -10,7 +10,7 @@ use Rattle.causes.specs.declared.Cause.{Cause}
 use Rattle.rules.specs.declared.Verdict as R
 use Rattle.rules.specs.declared.Verdict.the-variants as J
 use Rattle.rules.specs.Settings.{Settings}
-use Rattle.rules.specs.Discards.{Sized}
+use Rattle.packets.specs.Discards.{Sized}
 use Rattle.rules.specs.Verdict.{checkVerdict}
 use Rattle.reply.specs.Reply.{replyLength, replyOf}
 use Rattle.replies.proofs.Fresh.{answered, nak-short}

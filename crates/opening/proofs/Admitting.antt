@@ -8,7 +8,7 @@ use borrow.Author.Tests.{eq-eqb, ne-eqb}
 use lib.ListN.{length, take}
 use lib.Seq.{length-take-le}
 use Rattle.octets.specs.Runs.{write}
-use Rattle.rules.specs.Discards.{formOf, Sized}
+use Rattle.packets.specs.Discards.{formOf, Sized}
 use Rattle.jobs.specs.declared.Job.{Job}
 use Rattle.jobs.specs.Job.{firstJob}
 use Rattle.scheduler.specs.declared.Scheduler.{Scheduler}

@@ -46,13 +46,13 @@ pub fn open(s: Scheduler, p: &[u8], clock: u32, store: &mut [u8]) -> Called
             outcome: Outcome::Refused(6),
         };
     }
-    let d = rules::form(p);
+    let d = packets::form(p);
     if d != 0 {
         return Called {
             scheduler: s,
             outcome: Outcome::Discarded(d),
         };
     }
-    let n = rules::length_of(p);
+    let n = packets::length_of(p);
     admit(s, j, p, n, clock, store)
 }

@@ -6,7 +6,7 @@ use mathlib.Core.List.{List, _++_}
 use Prim.Native.Nat.{ℕ, _+_, _≤_}
 use Rattle.attributes.specs.Attributes.{attributes, any, kindIs}
 use Rattle.causes.specs.declared.Cause.{Cause}
-use Rattle.rules.specs.Packet.{codeOf, identifierOf, lengthOf, authOf, areaOf}
+use Rattle.packets.specs.Packet.{codeOf, identifierOf, lengthOf, authOf, areaOf}
 use Rattle.rules.specs.Verdict.{applies}
 use Rattle.reply.specs.Reply.{bodyOf, macPart, replyLength, headOf, replyWith, replyMac, replyAuth, replyOf}
 use Rattle.frames.proofs.Packets.{valued, packet, packetLength, packetMac, packetAuth, signedPacket}

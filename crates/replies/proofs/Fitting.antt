@@ -15,8 +15,8 @@ use Rattle.signing.proofs.Messages.{length-zeros}
 use Rattle.survey.specs.Survey.{sizeOf}
 use Rattle.causes.specs.declared.Cause.{Cause}
 use Rattle.causes.specs.Causes.{errorCause}
-use Rattle.rules.specs.Packet.{areaOf}
-use Rattle.rules.specs.Discards.{Sized}
+use Rattle.packets.specs.Packet.{areaOf}
+use Rattle.packets.specs.Discards.{Sized}
 use Rattle.rules.specs.Verdict.{applies}
 use Rattle.reply.specs.Reply.{statePart, causePart, proxyPart, bodyOf, macPart, replyLength}
 use Rattle.replies.proofs.Sums.{sumOf, total-fits, first-size, length-found, length-proxies, four-types}

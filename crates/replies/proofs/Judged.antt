@@ -18,8 +18,9 @@ use Rattle.stamps.specs.declared.Stamp.the-variants.{Usable, Unusable}
 use Rattle.stamps.specs.Stamp.{stampIn, stampOf}
 use Rattle.survey.specs.Survey.{sizeOf}
 use Rattle.causes.specs.declared.Cause.{Cause}
-use Rattle.rules.specs.Packet.{areaOf}
-use Rattle.rules.specs.Discards.{Sized, wrongMac, badMac}
+use Rattle.packets.specs.Packet.{areaOf}
+use Rattle.packets.specs.Discards.{Sized}
+use Rattle.rules.specs.Discards.{wrongMac, badMac}
 use Rattle.reply.specs.Reply.{replyLength}
 use Rattle.replies.proofs.Fitting.{reply-fits}
 

@@ -14,8 +14,9 @@ use Rattle.attributes.specs.Attributes.{attributes, valueOf, firstOf, onFirst, 
 use Rattle.attributes.proofs.Searches.{only}
 use Rattle.signing.specs.Signing.{authenticator, messageAuthenticator}
 use Rattle.signing.proofs.Messages.{length-zeros}
-use Rattle.rules.specs.Packet.{lengthOf, authOf, areaOf}
-use Rattle.rules.specs.Discards.{badLength, badAttributes, wrongMac, badMac}
+use Rattle.packets.specs.Packet.{lengthOf, authOf, areaOf}
+use Rattle.packets.specs.Discards.{badLength, badAttributes}
+use Rattle.rules.specs.Discards.{wrongMac, badMac}
 use Rattle.frames.proofs.Packets.{valued, packetLength, packetMac, packetAuth, signedPacket, length-signed, length-packetMac, packet-low}
 use Rattle.replies.proofs.Plain.{Plain}
 use Rattle.replies.proofs.Trailing.{trailing, trailer, trailing-first, trailing-once, trailing-tiled, trailing-value}

@@ -10,7 +10,7 @@ use lib.Seq.{take-all, take-at, drop-at}
 use Rattle.octets.specs.Numbers.{beBytes}
 use Rattle.octets.specs.Runs.{part}
 use Rattle.octets.proofs.Numbers.{be-two, length-beBytes}
-use Rattle.rules.specs.Packet.{codeOf, identifierOf, lengthOf, authOf, areaOf}
+use Rattle.packets.specs.Packet.{codeOf, identifierOf, lengthOf, authOf, areaOf}
 use Rattle.frames.proofs.Packets.{valued, packet, packetLength, packetMac, packetAuth, signedPacket, length-packet, length-packetMac, length-packetAuth}
 
 -- the middle and the end of a list of parts

@@ -16,9 +16,9 @@ use Rattle.survey.specs.declared.Flags.{Flags}
 use Rattle.survey.specs.Survey.{Surveyed, seenAt}
 use Rattle.survey.proofs.Values.{seen-any}
 use Rattle.causes.specs.declared.Cause.{Cause}
-use Rattle.rules.specs.Packet.{codeOf, authOf, areaOf}
-use Rattle.rules.specs.Discards.{formOf, badLength, badCode, badAttributes, Sized}
-use Rattle.rules.proofs.Verdicts.{area-of}
+use Rattle.packets.specs.Packet.{codeOf, authOf, areaOf}
+use Rattle.packets.specs.Discards.{formOf, badLength, badCode, badAttributes, Sized}
+use Rattle.packets.proofs.Areas.{area-of}
 use Rattle.reply.specs.Reply.{statePart, causePart, proxyPart, bodyOf, macPart, replyLength, headOf, replyWith, replyMac, replyAuth, replyOf}
 use Rattle.frames.specs.Rooms.{macRoom, withMac}
 use Rattle.frames.proofs.Writes.{write-before}

@@ -8,8 +8,8 @@ use Rattle.octets.specs.Runs.{part}
 use Rattle.attributes.specs.Attributes.{attributes, any, kindIs}
 use Rattle.signing.specs.Signing.{authenticator, messageAuthenticator}
 use Rattle.causes.specs.declared.Cause.{Cause}
-use Rattle.rules.specs.Packet.{authOf, areaOf}
-use Rattle.rules.specs.Discards.{Sized}
+use Rattle.packets.specs.Packet.{authOf, areaOf}
+use Rattle.packets.specs.Discards.{Sized}
 use Rattle.reply.specs.Reply.{bodyOf, macPart, replyLength, headOf, replyWith, replyMac, replyAuth, replyOf}
 use Rattle.reply.proofs.Lengths.{length-auth, length-head}
 use Rattle.frames.proofs.Packets.{valued, packet, packetLength, packetMac, packetAuth, signedPacket}

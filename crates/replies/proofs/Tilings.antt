@@ -20,7 +20,7 @@ use Rattle.attributes.proofs.Stands.{first-stands, member-stands}
 use Rattle.attributes.proofs.Areas.{placed-bytes}
 use Rattle.causes.specs.declared.Cause.{Cause}
 use Rattle.causes.specs.Causes.{errorCause}
-use Rattle.rules.specs.Packet.{areaOf}
+use Rattle.packets.specs.Packet.{areaOf}
 use Rattle.rules.specs.Verdict.{applies}
 use Rattle.reply.specs.Reply.{asCame, ifFound, statePart, causePart, proxiesIn, proxyPart, bodyOf, macPart, replyLength, replyMac, replyOf}
 use Rattle.reply.proofs.Lengths.{length-replyMac}

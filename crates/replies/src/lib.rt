@@ -4,8 +4,8 @@ ghost use Prim.Native.Nat.{_≤_};
 ghost use lib.ListN.{length};
 ghost use Rattle.octets.specs.Runs.{write};
 ghost use Rattle.survey.specs.Survey.{Surveyed};
-ghost use Rattle.rules.specs.Packet.{codeOf, areaOf};
-ghost use Rattle.rules.specs.Discards.{formOf, Sized};
+ghost use Rattle.packets.specs.Packet.{codeOf, areaOf};
+ghost use Rattle.packets.specs.Discards.{formOf, Sized};
 ghost use Rattle.reply.specs.Reply.{replyLength, replyOf};
 
 // Writes the reply to the request p of Length n, and returns its length. What one pass over the attributes told says where

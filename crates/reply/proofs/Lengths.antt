@@ -11,8 +11,8 @@ use Rattle.attributes.specs.Attributes.{attributes, any, kindIs}
 use Rattle.signing.specs.Signing.{zeros}
 use Rattle.signing.proofs.Messages.{length-authenticator, length-messageAuthenticator}
 use Rattle.causes.specs.declared.Cause.{Cause}
-use Rattle.rules.specs.Packet.{authOf, areaOf}
-use Rattle.rules.specs.Discards.{Sized}
+use Rattle.packets.specs.Packet.{authOf, areaOf}
+use Rattle.packets.specs.Discards.{Sized}
 use Rattle.reply.specs.Reply.{bodyOf, macPart, replyLength, headOf, replyWith, replyMac, replyAuth, replyOf}
 use Rattle.frames.proofs.Packets.{valued, packet, packetLength, length-packet}
 

@@ -21,7 +21,7 @@ use Rattle.attributes.proofs.Stands.{found-value}
 use Rattle.attributes.proofs.Areas.{placed-bytes}
 use Rattle.causes.specs.declared.Cause.{Cause}
 use Rattle.causes.specs.Causes.{errorCause}
-use Rattle.rules.specs.Packet.{codeOf, identifierOf}
+use Rattle.packets.specs.Packet.{codeOf, identifierOf}
 use Rattle.rules.specs.Verdict.{applies}
 use Rattle.reply.specs.Reply.{asCame, causePart, replyLength, headOf}
 

@@ -14,7 +14,7 @@ use Rattle.attributes.specs.Attributes.{attributes, any, firstOf, kindIs}
 use Rattle.signing.specs.Signing.{zeros, authenticator, messageAuthenticator}
 use Rattle.causes.specs.declared.Cause.{Cause}
 use Rattle.causes.specs.Causes.{errorCause}
-use Rattle.rules.specs.Packet.{codeOf, identifierOf, authOf, areaOf}
+use Rattle.packets.specs.Packet.{codeOf, identifierOf, authOf, areaOf}
 use Rattle.rules.specs.Verdict.{applies}
 
 -- an attribute of the area s, as it came

@@ -8,7 +8,7 @@ ghost use Rattle.octets.specs.Runs.{write};
 ghost use Rattle.attributes.specs.Attributes.{stepAt};
 ghost use Rattle.attributes.specs.declared.Step.the-variants.{Found};
 ghost use Rattle.survey.specs.Survey.{Surveyed};
-ghost use Rattle.rules.specs.Packet.{codeOf};
+ghost use Rattle.packets.specs.Packet.{codeOf};
 ghost use Rattle.rules.specs.Verdict.{applies};
 ghost use Rattle.reply.specs.Reply.{asCame, statePart, causePart, proxyPart, replyLength, headOf};
 use attributes::Attribute;

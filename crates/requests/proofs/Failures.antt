@@ -13,11 +13,12 @@ use Rattle.attributes.specs.Attributes.{tiled}
 use Rattle.signing.specs.Signing.{authenticator}
 use Rattle.survey.specs.declared.Flags.{Flags}
 use Rattle.survey.specs.Survey.{Surveyed}
-use Rattle.rules.specs.Packet.{codeOf, identifierOf, areaOf}
+use Rattle.packets.specs.Packet.{codeOf, identifierOf, areaOf}
 use Rattle.rules.specs.Settings.{badSecret}
-use Rattle.rules.specs.Discards.{badLength, badAttributes, formOf, badMac, Sized}
-use Rattle.rules.proofs.Forms.{form-good, good-head}
-use Rattle.rules.proofs.Verdicts.{area-of}
+use Rattle.packets.specs.Discards.{badLength, badAttributes, formOf, Sized}
+use Rattle.rules.specs.Discards.{badMac}
+use Rattle.packets.proofs.Forms.{form-good, good-head}
+use Rattle.packets.proofs.Areas.{area-of}
 use Rattle.requests.specs.declared.Checked.the-variants.{Right, Failed, NotChecked}
 use Rattle.requests.specs.ReplyCheck.{badRequest, badReply, wrongCode, wrongIdentifier, wrongAuthenticator, failureOf, checkAnswer}
 

@@ -6,9 +6,10 @@ use Prim.Native.Nat.{ℕ, _+_}
 use lib.Dec.{eqb}
 use Rattle.octets.specs.Runs.{equalBytes}
 use Rattle.signing.specs.Signing.{authenticator}
-use Rattle.rules.specs.Packet.{codeOf, identifierOf, lengthOf, authOf}
+use Rattle.packets.specs.Packet.{codeOf, identifierOf, lengthOf, authOf}
 use Rattle.rules.specs.Settings.{badSecret}
-use Rattle.rules.specs.Discards.{badLength, badAttributes, formOf, badMac}
+use Rattle.packets.specs.Discards.{badLength, badAttributes, formOf}
+use Rattle.rules.specs.Discards.{badMac}
 use Rattle.requests.specs.declared.Checked as D
 use Rattle.requests.specs.declared.Checked.the-variants.{Right, Failed, NotChecked}
 

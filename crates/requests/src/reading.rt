@@ -7,8 +7,8 @@ ghost use lib.ListN.{length};
 ghost use Rattle.octets.specs.Runs.{part, equalBytes};
 ghost use Rattle.signing.specs.Signing.{authenticator};
 ghost use Rattle.survey.specs.Survey.{Surveyed};
-ghost use Rattle.rules.specs.Packet.{codeOf, areaOf};
-ghost use Rattle.rules.specs.Discards.{formOf, Sized};
+ghost use Rattle.packets.specs.Packet.{codeOf, areaOf};
+ghost use Rattle.packets.specs.Discards.{formOf, Sized};
 ghost use Rattle.requests.specs.ReplyCheck.{badReply, failureOf};
 
 // V3: the answer's code is not the request's plus 1 or 2.
@@ -74,13 +74,13 @@ fn mismatch(
 pub fn failure(secret: &[u8], request: &[u8], reply: &[u8]) -> u8
     ensures { λ v. ⌜ v ≡ failureOf (now (secret .entry)) (now (request .entry)) (now (reply .entry)) ⌝ }
 {
-    if rules::form(request) != 0 {
+    if packets::form(request) != 0 {
         return 1;
     }
-    if rules::bad_length(reply) {
+    if packets::bad_length(reply) {
         return 2;
     }
-    let n = rules::sized(reply);
+    let n = packets::sized(reply);
     let s = octets::slice(reply, 20, n - 20);
     let mut count = [0u8; 256];
     let mut ends = [0u16; 256];

@@ -19,7 +19,7 @@ use Rattle.causes.specs.declared.Cause as C
 use Rattle.causes.specs.declared.Cause.the-variants as K
 use Rattle.causes.specs.Causes.{causeOf}
 use Rattle.causes.proofs.Passed.{once}
-use Rattle.rules.specs.Discards.{formOf, Sized}
+use Rattle.packets.specs.Discards.{formOf, Sized}
 use Rattle.rules.specs.Verdict.{applies}
 use Rattle.reread.specs.Reread.{holds, oddMac}
 

@@ -17,11 +17,11 @@ use Rattle.stamps.specs.Stamp.{stampOf}
 use Rattle.causes.specs.declared.Cause.the-variants.{NoCause}
 use Rattle.causes.specs.Causes.{causeOf}
 use Rattle.causes.proofs.Passed.{repeated, misfit}
-use Rattle.rules.specs.Packet.{codeOf, lengthOf, areaOf}
+use Rattle.packets.specs.Packet.{codeOf, lengthOf, areaOf}
 use Rattle.rules.specs.Settings.{settings}
-use Rattle.rules.specs.Discards.{formOf, Sized}
+use Rattle.packets.specs.Discards.{formOf, Sized}
 use Rattle.rules.specs.Verdict.{applies}
-use Rattle.rules.proofs.Forms.{good-sized, form-good}
+use Rattle.packets.proofs.Forms.{good-sized, form-good}
 use Rattle.reread.specs.Reread.{holds, oddMac, holdsPassed}
 use Rattle.reread.specs.declared.Again.the-variants.{Gone, Held}
 use Rattle.reread.specs.Again.{Stands, Told}

@@ -10,9 +10,9 @@ use Rattle.survey.specs.Types.{misfitting, firstRepeated, none}
 use Rattle.survey.specs.Survey.{Surveyed}
 use Rattle.stamps.specs.declared.Stamp.the-variants.{Usable}
 use Rattle.stamps.specs.Stamp.{stampOf}
-use Rattle.rules.specs.Packet.{codeOf, areaOf}
+use Rattle.packets.specs.Packet.{codeOf, areaOf}
 use Rattle.rules.specs.Settings.{settings}
-use Rattle.rules.specs.Discards.{formOf, Sized}
+use Rattle.packets.specs.Discards.{formOf, Sized}
 use Rattle.reread.specs.declared.Again as D
 use Rattle.reread.specs.declared.Again.the-variants.{Gone, Held}
 use Rattle.reread.specs.Reread.{oddMac, holdsPassed}

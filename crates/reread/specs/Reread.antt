@@ -11,9 +11,9 @@ use Rattle.stamps.specs.declared.Stamp as T
 use Rattle.stamps.specs.declared.Stamp.the-variants.{Usable, Unusable}
 use Rattle.stamps.specs.Stamp.{stampOf}
 use Rattle.causes.specs.Causes.{causeOf}
-use Rattle.rules.specs.Packet.{codeOf, lengthOf, areaOf}
+use Rattle.packets.specs.Packet.{codeOf, lengthOf, areaOf}
 use Rattle.rules.specs.Settings.{Settings}
-use Rattle.rules.specs.Discards.{formOf}
+use Rattle.packets.specs.Discards.{formOf}
 use Rattle.rules.specs.Verdict.{applies}
 
 -- none of D1 to D3 applies, and Length is the kept one

@@ -7,8 +7,8 @@ ghost use Rattle.attributes.specs.Attributes.{attributes, any};
 ghost use Rattle.survey.specs.Survey.{Surveyed, seenAt, zeros};
 ghost use Rattle.causes.specs.Causes.{causeOf};
 ghost use Rattle.rules.specs.Verdict.{applies};
-ghost use Rattle.rules.specs.Packet.{codeOf, areaOf};
-ghost use Rattle.rules.specs.Discards.{formOf, Sized};
+ghost use Rattle.packets.specs.Packet.{codeOf, areaOf};
+ghost use Rattle.packets.specs.Discards.{formOf, Sized};
 ghost use Rattle.reread.specs.Reread.{holds, oddMac};
 ghost use Rattle.reread.specs.Again.{Told};
 
@@ -22,8 +22,8 @@ pub enum Again {
 pub fn holds(n: usize, q: &[u8]) -> bool
     ensures { λ r. ⌜ r ≡ holds n (now (q .entry)) ⌝ }
 {
-    if rules::form(q) == 0 {
-        return rules::length_of(q) == n;
+    if packets::form(q) == 0 {
+        return packets::length_of(q) == n;
     }
     false
 }

@@ -6,8 +6,8 @@ use Prim.Native.Nat.{ℕ, _*_}
 use lib.Dec.{eqb}
 use lib.ListN.{length, take}
 use Rattle.octets.specs.Runs.{write}
-use Rattle.rules.specs.Packet.{lengthOf}
-use Rattle.rules.specs.Discards.{formOf}
+use Rattle.packets.specs.Packet.{lengthOf}
+use Rattle.packets.specs.Discards.{formOf}
 use Rattle.records.specs.Record.{Session}
 use Rattle.sessions.specs.declared.Inserted as I
 use Rattle.sessions.specs.declared.Inserted.the-variants.{Slot, NotInserted}

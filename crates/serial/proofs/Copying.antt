@@ -10,8 +10,8 @@ use lib.ListN.{length, getD, take}
 use lib.Seq.{length-take-le}
 use Rattle.octets.specs.Runs.{write}
 use Rattle.octets.proofs.Write.{byte-before, byte-behind}
-use Rattle.rules.specs.Packet.{lengthOf}
-use Rattle.rules.specs.Discards.{formOf}
+use Rattle.packets.specs.Packet.{lengthOf}
+use Rattle.packets.specs.Discards.{formOf}
 use Rattle.scheduler.specs.Scheduler.{openAt, lowestFree}
 use Rattle.scheduler.specs.Refusals.{openRefusal}
 use Rattle.scheduler.specs.Calls.{openStore}

@@ -17,9 +17,10 @@ use Rattle.blockwise.proofs.Stepwise.{blocks-more, blocks-all, same-hashed}
 use Rattle.criteria.specs.Marks.{marksAfter}
 use Rattle.rules.specs.declared.Verdict as R
 use Rattle.rules.specs.declared.Verdict.the-variants as J
-use Rattle.rules.specs.Packet.{lengthOf, authOf}
+use Rattle.packets.specs.Packet.{lengthOf, authOf}
 use Rattle.rules.specs.Settings.{Settings}
-use Rattle.rules.specs.Discards.{formOf, Sized, signedBy}
+use Rattle.packets.specs.Discards.{formOf, Sized}
+use Rattle.rules.specs.Discards.{signedBy}
 use Rattle.rules.specs.Verdict.{checkVerdict}
 use Rattle.reply.specs.Reply.{replyLength}
 use Rattle.answers.specs.declared.Answer.the-variants as A

@@ -9,9 +9,10 @@ use Rattle.blockwise.specs.Block.{blockCount, hashedTo}
 use Rattle.slots.specs.Slot.{slotCount}
 use Rattle.criteria.specs.Marks.{marksAfter}
 use Rattle.rules.specs.declared.Verdict.{Verdict}
-use Rattle.rules.specs.Packet.{lengthOf, areaOf}
+use Rattle.packets.specs.Packet.{lengthOf, areaOf}
 use Rattle.rules.specs.Settings.{Settings}
-use Rattle.rules.specs.Discards.{formOf, signedBy}
+use Rattle.packets.specs.Discards.{formOf}
+use Rattle.rules.specs.Discards.{signedBy}
 use Rattle.rules.specs.Verdict.{checkVerdict, verdictOf}
 use Rattle.effects.specs.Matching.{matchesIn}
 use Rattle.answers.specs.declared.Answer as D

@@ -13,7 +13,7 @@ use Rattle.stamps.specs.declared.Stamp.{Stamp}
 use Rattle.stamps.specs.declared.Stamp.the-variants.{Usable, Unusable}
 use Rattle.causes.specs.declared.Cause.{Cause}
 use Rattle.causes.specs.declared.Cause.the-variants.{SessionNotFound, NoCause}
-use Rattle.rules.specs.Packet.{lengthOf}
+use Rattle.packets.specs.Packet.{lengthOf}
 use Rattle.rules.specs.Settings.{Settings}
 use Rattle.rules.specs.Discards.{wrongMac, badMac}
 use Rattle.rules.specs.Verdict.{freshVerdict, stampVerdict, checkVerdict}

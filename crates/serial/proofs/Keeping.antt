@@ -12,9 +12,9 @@ use Rattle.blockwise.specs.Block.{blockCount}
 use Rattle.slots.specs.Slot.{slotCount}
 use Rattle.rules.specs.declared.Verdict as R
 use Rattle.rules.specs.declared.Verdict.the-variants as J
-use Rattle.rules.specs.Packet.{lengthOf}
+use Rattle.packets.specs.Packet.{lengthOf}
 use Rattle.rules.specs.Settings.{Settings}
-use Rattle.rules.specs.Discards.{formOf}
+use Rattle.packets.specs.Discards.{formOf}
 use Rattle.rules.specs.Verdict.{checkVerdict}
 use Rattle.answers.specs.declared.Answer.the-variants as A
 use Rattle.jobs.specs.declared.Job as B

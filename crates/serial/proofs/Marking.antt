@@ -17,9 +17,10 @@ use Rattle.sessions.specs.Change.{countMarked}
 use Rattle.stamps.specs.Stamp.{stampOf}
 use Rattle.causes.specs.declared.Cause.the-variants.{SessionNotFound, NoCause}
 use Rattle.rules.specs.declared.Verdict.the-variants as J
-use Rattle.rules.specs.Packet.{codeOf, lengthOf, areaOf}
+use Rattle.packets.specs.Packet.{codeOf, lengthOf, areaOf}
 use Rattle.rules.specs.Settings.{Settings}
-use Rattle.rules.specs.Discards.{formOf, signedBy}
+use Rattle.packets.specs.Discards.{formOf}
+use Rattle.rules.specs.Discards.{signedBy}
 use Rattle.reply.specs.Reply.{replyLength}
 use Rattle.effects.specs.Matching.{matchesIn, matchCount}
 use Rattle.effects.specs.Changes.{changeOf, changeMatching}

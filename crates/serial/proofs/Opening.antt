@@ -13,8 +13,8 @@ use Rattle.octets.specs.Runs.{write}
 use Rattle.octets.proofs.Write.{length-write}
 use Rattle.blockwise.specs.Block.{blockCount}
 use Rattle.blockwise.proofs.Stepwise.{blocks-none}
-use Rattle.rules.specs.Packet.{lengthOf}
-use Rattle.rules.specs.Discards.{formOf}
+use Rattle.packets.specs.Packet.{lengthOf}
+use Rattle.packets.specs.Discards.{formOf}
 use Rattle.jobs.specs.Job.{firstJob}
 use Rattle.scheduler.specs.declared.Scheduler as D
 use Rattle.scheduler.specs.declared.Outcome.the-variants as O

@@ -14,8 +14,8 @@ use lib.Seq.{take-take, length-take-le}
 use Rattle.octets.specs.Runs.{part, write}
 use Rattle.octets.proofs.Write.{length-write}
 use Rattle.octets.proofs.Part.{length-part, part-before, part-behind, part-written}
-use Rattle.rules.specs.Packet.{lengthOf}
-use Rattle.rules.specs.Discards.{formOf, Sized}
+use Rattle.packets.specs.Packet.{lengthOf}
+use Rattle.packets.specs.Discards.{formOf, Sized}
 use Rattle.scheduler.specs.Scheduler.{partOf}
 use Rattle.serial.proofs.Same.{SamePacket, form-sized, same-packet}
 

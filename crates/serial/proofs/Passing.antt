@@ -18,7 +18,7 @@ use Rattle.signing.specs.Signing.{zeros}
 use Rattle.stamps.specs.Stamp.{stampOf}
 use Rattle.causes.specs.Causes.{causeOf}
 use Rattle.rules.specs.declared.Verdict.the-variants as J
-use Rattle.rules.specs.Packet.{codeOf, lengthOf, areaOf}
+use Rattle.packets.specs.Packet.{codeOf, lengthOf, areaOf}
 use Rattle.rules.specs.Settings.{Settings}
 use Rattle.rules.specs.Discards.{badMac}
 use Rattle.rules.specs.Verdict.{applies, nakOr, freshVerdict, checkVerdict}

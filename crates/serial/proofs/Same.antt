@@ -14,9 +14,9 @@ use Rattle.octets.specs.Runs.{part}
 use Rattle.octets.specs.Numbers.{be}
 use Rattle.octets.proofs.Part.{part-part}
 use Rattle.signing.proofs.Messages.{Alike, same-first}
-use Rattle.rules.specs.Packet.{codeOf, identifierOf, lengthOf, authOf, areaOf}
-use Rattle.rules.specs.Discards.{badLength, badCode, badAttributes, formOf, Sized}
-use Rattle.rules.proofs.Forms.{form-good, good-sized}
+use Rattle.packets.specs.Packet.{codeOf, identifierOf, lengthOf, authOf, areaOf}
+use Rattle.packets.specs.Discards.{badLength, badCode, badAttributes, formOf, Sized}
+use Rattle.packets.proofs.Forms.{form-good, good-sized}
 use Rattle.reread.specs.Reread.{holds}
 
 -- q, read again, is the packet p

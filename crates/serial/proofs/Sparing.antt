@@ -12,7 +12,7 @@ use lib.ListN.{length}
 use Rattle.slots.specs.Slot.{slotCount}
 use Rattle.sessions.specs.Change.{countMarked}
 use Rattle.causes.specs.declared.Cause.the-variants.{SessionNotFound}
-use Rattle.rules.specs.Packet.{codeOf, areaOf}
+use Rattle.packets.specs.Packet.{codeOf, areaOf}
 use Rattle.rules.specs.Settings.{Settings}
 use Rattle.effects.specs.Changes.{changeOf}
 use Rattle.effects.proofs.Marked.{none-marked}

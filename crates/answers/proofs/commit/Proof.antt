@@ -1,7 +1,8 @@
 -- `answers::commit` meets its contract: the sessions are changed first, and their number decides the answer.
 -- Assumes nothing.
 use borrow.Author.Needs.{needs}
-use Rattle.rules.proofs.Verdicts.{area-of, surveyed-at}
+use Rattle.packets.proofs.Areas.{area-of}
+use Rattle.rules.proofs.Verdicts.{surveyed-at}
 use Rattle.answers.proofs.Commits.{misfit-at, commit-none, commit-some, commit-none-reply, commit-some-reply, commit-table}
 use Rattle.answers.proofs.commit.Statement.{statement}
 use Rattle.answers.proofs.commit.Tie as tie

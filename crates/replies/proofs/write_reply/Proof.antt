@@ -7,7 +7,8 @@ use denote.Ref.{now}
 use lib.ListN.{length}
 use Rattle.reply.specs.Reply.{replyLength}
 use Rattle.frames.specs.Rooms.{macRoom}
-use Rattle.rules.proofs.Verdicts.{area-of, surveyed-at}
+use Rattle.packets.proofs.Areas.{area-of}
+use Rattle.rules.proofs.Verdicts.{surveyed-at}
 use Rattle.replies.proofs.Replying.{code-low, auth-long, body-fits, room-fits, end-is, replied}
 use borrow.Author.Needs.{needs}
 use Rattle.replies.proofs.write_reply.Statement.{statement}

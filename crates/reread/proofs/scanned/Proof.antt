@@ -1,7 +1,7 @@
 -- `reread::scanned` meets its contract: the pass is over the area of the attributes.
 -- Assumes nothing.
 use borrow.Author.Needs.{needs}
-use Rattle.rules.proofs.Verdicts.{area-of, area-short}
+use Rattle.packets.proofs.Areas.{area-of, area-short}
 use Rattle.reread.proofs.scanned.Statement.{statement}
 use Rattle.reread.proofs.scanned.Tie as tie
 

@@ -1,7 +1,7 @@
 -- `handler::passed::matched` meets its contract: the marks of the walk are the matching sessions.
 -- Assumes nothing.
 use borrow.Author.Needs.{needs}
-use Rattle.rules.proofs.Verdicts.{area-of}
+use Rattle.packets.proofs.Areas.{area-of}
 use Rattle.handler.proofs.Arms.{passed-answer, passed-table, passed-reply}
 use Rattle.handler.proofs.passed.matched.Statement.{statement}
 use Rattle.handler.proofs.passed.matched.Tie as tie

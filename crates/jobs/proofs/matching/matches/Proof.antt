@@ -1,7 +1,7 @@
 -- `jobs::matching::matches` meets its contract: the criteria that the pass kept are those of the request.
 -- Assumes nothing.
 use borrow.Author.Needs.{needs}
-use Rattle.rules.proofs.Verdicts.{area-of}
+use Rattle.packets.proofs.Areas.{area-of}
 use Rattle.jobs.proofs.Examined.{match-law}
 use Rattle.jobs.proofs.matching.matches.Statement.{statement}
 use Rattle.jobs.proofs.matching.matches.Tie as tie

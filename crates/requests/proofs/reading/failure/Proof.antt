@@ -3,8 +3,9 @@
 use mathlib.Core.Path.{refl}
 use borrow.Author.Needs.{needs}
 use Rattle.survey.specs.Survey.{zeros}
-use Rattle.rules.proofs.Forms.{judged-good}
-use Rattle.rules.proofs.Verdicts.{area-of, area-short, surveyed-of}
+use Rattle.packets.proofs.Forms.{judged-good}
+use Rattle.packets.proofs.Areas.{area-of, area-short}
+use Rattle.rules.proofs.Verdicts.{surveyed-of}
 use Rattle.requests.proofs.Failures.{first-fails, form-none, form-long, length-fails, attributes-fail, reply-good}
 use Rattle.requests.proofs.reading.failure.Statement.{statement}
 use Rattle.requests.proofs.reading.failure.Tie as tie
