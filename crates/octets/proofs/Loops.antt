@@ -9,7 +9,7 @@ use native.Mathlib.Omega.{arith}
 use lib.ListN.{length, getD, take, drop, set, replicate, length-replicate}
 use lib.Seq.{drop-cons, take-all, take-length, take-suc, take-add, length-take-le}
 use Rattle.octets.specs.Runs.{part, write}
-use Rattle.octets.proofs.Write.{write-nil, write-one, write-append}
+use Rattle.octets.proofs.Write.{write-nil, write-one, write-append, write-then}
 
 -- ---- a loop that copies v to place i of l: t is what it has made of l
 
@@ -52,12 +52,9 @@ part-none : (v : List ℕ) (j : ℕ) → part j 0 v ≡ []
 unfolding part
 part-none v j = refl
 
--- eight stores
-pub store-eight : (l : List ℕ) (i : ℕ) (v : List ℕ) (j : ℕ) → j + 8 ≤ length v
-    → set (set (set (set (set (set (set (set l i (getD v j 0)) (i + 1) (getD v (j + 1) 0)) (i + 2) (getD v (j + 2) 0)) (i + 3) (getD v (j + 3) 0)) (i + 4) (getD v (j + 4) 0)) (i + 5) (getD v (j + 5) 0)) (i + 6) (getD v (j + 6) 0)) (i + 7) (getD v (j + 7) 0)
-    ≡ write l i (part j 8 v)
-unfolding write
-store-eight l i v j h =
+part-eight : (v : List ℕ) (j : ℕ) → j + 8 ≤ length v
+    → part j 8 v ≡ getD v j 0 ∷ getD v (j + 1) 0 ∷ getD v (j + 2) 0 ∷ getD v (j + 3) 0 ∷ getD v (j + 4) 0 ∷ getD v (j + 5) 0 ∷ getD v (j + 6) 0 ∷ getD v (j + 7) 0 ∷ []
+part-eight v j h =
     rw (
       part-cons v j 7 (omega arith),
       part-cons v (suc j) 6 (omega arith),
@@ -70,6 +67,11 @@ store-eight l i v j h =
       part-none,
     )
     (simp towards-suc)
+
+-- eight bytes, in two writes of four
+pub store-eight : (t t′ l : List ℕ) (i : ℕ) (v : List ℕ) (j : ℕ) → t ≡ write l i (getD v j 0 ∷ getD v (j + 1) 0 ∷ getD v (j + 2) 0 ∷ getD v (j + 3) 0 ∷ [])
+    → t′ ≡ write t (i + 4) (getD v (j + 4) 0 ∷ getD v (j + 5) 0 ∷ getD v (j + 6) 0 ∷ getD v (j + 7) 0 ∷ []) → j + 8 ≤ length v → t′ ≡ write l i (part j 8 v)
+store-eight t t′ l i v j e g h = write-then t t′ l i (i + 4) _ _ e g refl ∙ ap (write l i) (sym (part-eight v j h))
 
 -- ---- a loop that writes the byte a from place i on
 

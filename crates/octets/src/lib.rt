@@ -1,5 +1,6 @@
 // Runs of bytes and numbers in bytes: what every layer reads, writes and compares with.
 ghost use mathlib.Core.Path.{_≡_};
+ghost use mathlib.Core.List.{[], _∷_};
 ghost use Prim.Native.Nat.{_+_, _*_, _≤_, _<_};
 ghost use lib.ListN.{length, replicate};
 ghost use Rattle.octets.specs.Numbers.{be, beBytes};
@@ -45,6 +46,17 @@ pub fn put_be16(t: &mut [u8], at: usize, v: u16)
     t[at + 1] = (v % 256) as u8;
 }
 
+// Writes four bytes.
+pub fn put4(t: &mut [u8], at: usize, a: u8, b: u8, c: u8, d: u8)
+    requires { ⌜ at + 4 ≤ length (now t) ⌝ }
+    ensures { λ _. ⌜ now (t .exit) ≡ write (now (t .entry)) at (a ∷ b ∷ c ∷ d ∷ []) ⌝ }
+{
+    t[at] = a;
+    t[at + 1] = b;
+    t[at + 2] = c;
+    t[at + 3] = d;
+}
+
 // Writes v in four bytes: all 32 bits.
 pub fn put_be32(t: &mut [u8], at: usize, v: u32)
     requires { ⌜ at + 4 ≤ length (now t) ⌝ }
@@ -53,10 +65,14 @@ pub fn put_be32(t: &mut [u8], at: usize, v: u32)
     let v1 = v / 256;
     let v2 = v1 / 256;
     let v3 = v2 / 256;
-    t[at] = (v3 % 256) as u8;
-    t[at + 1] = (v2 % 256) as u8;
-    t[at + 2] = (v1 % 256) as u8;
-    t[at + 3] = (v % 256) as u8;
+    put4(
+        t,
+        at,
+        (v3 % 256) as u8,
+        (v2 % 256) as u8,
+        (v1 % 256) as u8,
+        (v % 256) as u8,
+    );
 }
 
 // The n bytes of s from place at on, as the part of s that they are; as many as there are where s ends before.
@@ -85,14 +101,8 @@ fn copy8(t: &mut [u8], at: usize, v: &[u8], j: usize)
     let x5 = v[j + 5];
     let x6 = v[j + 6];
     let x7 = v[j + 7];
-    t[at] = x0;
-    t[at + 1] = x1;
-    t[at + 2] = x2;
-    t[at + 3] = x3;
-    t[at + 4] = x4;
-    t[at + 5] = x5;
-    t[at + 6] = x6;
-    t[at + 7] = x7;
+    put4(&mut *t, at, x0, x1, x2, x3);
+    put4(t, at + 4, x4, x5, x6, x7);
 }
 
 // Copies v to place at of t, byte by byte.
