@@ -38,69 +38,44 @@ pub fn update(buf: &mut [u8], q: State, n: usize, s: &[u8]) -> State
     aligned(buf, r, &s[j..])
 }
 
+// Writes v in four bytes, the low byte first.
+fn put_le32(t: &mut [u8], at: usize, v: u32)
+    requires { ⌜ at + 4 ≤ length (now t) ⌝ }
+    ensures { λ _. ⌜ now (t .exit) ≡ write (now (t .entry)) at (leBytes 4 v) ⌝ }
+{
+    let v1 = v / 256;
+    let v2 = v1 / 256;
+    let v3 = v2 / 256;
+    octets::put4(
+        t,
+        at,
+        (v % 256) as u8,
+        (v1 % 256) as u8,
+        (v2 % 256) as u8,
+        (v3 % 256) as u8,
+    );
+}
+
 // The count of n bytes in bits, at the end of the buffer.
 fn put_count(buf: &mut [u8], n: usize)
     requires { ⌜ length (now buf) ≡ 64 ⌝ }
     ensures { λ _. ⌜ now (buf .exit) ≡ write (now (buf .entry)) 56 (leBytes 8 (n * 8)) ⌝ }
 {
     let v = (n % 0x2000_0000_0000_0000) as u64 * 8;
-    let v1 = v / 256;
-    let v2 = v1 / 256;
-    let v3 = v2 / 256;
-    let v4 = v3 / 256;
-    let v5 = v4 / 256;
-    let v6 = v5 / 256;
-    let v7 = v6 / 256;
-    buf[56] = (v % 256) as u8;
-    buf[57] = (v1 % 256) as u8;
-    buf[58] = (v2 % 256) as u8;
-    buf[59] = (v3 % 256) as u8;
-    buf[60] = (v4 % 256) as u8;
-    buf[61] = (v5 % 256) as u8;
-    buf[62] = (v6 % 256) as u8;
-    buf[63] = (v7 % 256) as u8;
-}
-
-fn low(v: u32) -> u8
-    ensures { λ r. ⌜ r ≡ v % 256 ⌝ }
-{
-    (v % 256) as u8
+    put_le32(&mut *buf, 56, (v % 0x1_0000_0000) as u32);
+    put_le32(buf, 60, (v / 0x1_0000_0000) as u32);
 }
 
 // The sixteen bytes of the words.
 pub fn bytes_of(q: State) -> [u8; 16]
     ensures { λ r. ⌜ r ≡ output q ⌝ }
 {
-    let a = q.a;
-    let b = q.b;
-    let c = q.c;
-    let d = q.d;
-    let a1 = a / 256;
-    let b1 = b / 256;
-    let c1 = c / 256;
-    let d1 = d / 256;
-    let a2 = a1 / 256;
-    let b2 = b1 / 256;
-    let c2 = c1 / 256;
-    let d2 = d1 / 256;
-    [
-        low(a),
-        low(a1),
-        low(a2),
-        low(a2 / 256),
-        low(b),
-        low(b1),
-        low(b2),
-        low(b2 / 256),
-        low(c),
-        low(c1),
-        low(c2),
-        low(c2 / 256),
-        low(d),
-        low(d1),
-        low(d2),
-        low(d2 / 256),
-    ]
+    let mut out = [0u8; 16];
+    put_le32(&mut out, 0, q.a);
+    put_le32(&mut out, 4, q.b);
+    put_le32(&mut out, 8, q.c);
+    put_le32(&mut out, 12, q.d);
+    out
 }
 
 // Zeros from place at on, and the count of n bytes at the end of the buffer.

@@ -1,30 +1,23 @@
--- `digest::bytes_of` meets its contract: each byte is the definition's.
+-- `digest::bytes_of` meets its contract: four words, one behind the other, fill the sixteen bytes.
 -- Assumes nothing.
 use borrow.Author.Needs.{needs}
+use Rattle.digest.proofs.Endings.{words-law}
 use Rattle.digest.proofs.bytes_of.Statement.{statement}
 use Rattle.digest.proofs.bytes_of.Tie as tie
 
 returns : tie.Need-returns
-returns c = cc
+returns c = search (needs, words-law)
 
 pub bytes-of-spec : {M : Type 1} → statement M
 bytes-of-spec =
     tie.close
     (tie.spec
+    (λ c. search needs)
     (λ c κs. search needs)
+    (λ c. search needs)
     (λ c κs. search needs)
+    (λ c. search needs)
     (λ c κs. search needs)
-    (λ c κs. search needs)
-    (λ c κs. search needs)
-    (λ c κs. search needs)
-    (λ c κs. search needs)
-    (λ c κs. search needs)
-    (λ c κs. search needs)
-    (λ c κs. search needs)
-    (λ c κs. search needs)
-    (λ c κs. search needs)
-    (λ c κs. search needs)
-    (λ c κs. search needs)
-    (λ c κs. search needs)
+    (λ c. search needs)
     (λ c κs. search needs)
     returns)
