@@ -14,27 +14,12 @@ ghost use Rattle.reply.specs.Reply.{asCame, statePart, causePart, proxyP
 use attributes::Attribute;
 use causes::Cause;
 use frames::put;
+use rules::nak::applies;
 
 fn wide(x: u8) -> usize
     ensures { λ r. ⌜ (r ≡ x) × (r < 256) ⌝ }
 {
     x as usize
-}
-
-// A cause is a NAK.
-fn applies(cause: Cause) -> bool
-    ensures { λ r. ⌜ r ≡ applies cause ⌝ }
-{
-    match cause {
-        Cause::NoCause => false,
-        Cause::UnsupportedAttribute => true,
-        Cause::MissingAttribute => true,
-        Cause::IdentificationMismatch => true,
-        Cause::InvalidRequest => true,
-        Cause::UnsupportedService => true,
-        Cause::SessionNotFound => true,
-        Cause::ResourcesUnavailable => true,
-    }
 }
 
 // An attribute of the area s as it came, its value as the reader hands it back.

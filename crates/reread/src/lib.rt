@@ -28,21 +28,6 @@ pub fn holds(n: usize, q: &[u8]) -> bool
     false
 }
 
-fn applies(cause: causes::Cause) -> bool
-    ensures { λ r. ⌜ r ≡ applies cause ⌝ }
-{
-    match cause {
-        causes::Cause::NoCause => false,
-        causes::Cause::UnsupportedAttribute => true,
-        causes::Cause::MissingAttribute => true,
-        causes::Cause::IdentificationMismatch => true,
-        causes::Cause::InvalidRequest => true,
-        causes::Cause::UnsupportedService => true,
-        causes::Cause::SessionNotFound => true,
-        causes::Cause::ResourcesUnavailable => true,
-    }
-}
-
 // The first type 80, if any, has length 18.
 fn plain_mac(count: &[u8; 256], sizes: &[u8; 256]) -> bool
     ensures { λ r. ⌜ r ≡ not (seenAt (now (count .entry)) 80 && not (eqb (getD (now (sizes .entry)) 80 0) 18)) ⌝ }
@@ -68,7 +53,7 @@ fn unobjected(
     ensures { λ r. ⌜ r ≡ not (any oddMac (attributes (now (s .entry)))) && not (applies (causeOf code address (now (name .entry)) (now (s .entry)))) ⌝ }
 {
     let cause = causes::first_cause(s, code, address, name, f, count, ends, sizes);
-    if applies(cause) {
+    if rules::nak::applies(cause) {
         return false;
     }
     plain_mac(count, sizes)

@@ -24,14 +24,14 @@ use Rattle.rules.specs.Discards.{signedBy, badMac}
 use Rattle.rules.specs.Verdict.{applies, nakOr, freshVerdict, checkVerdict, verdictOf}
 
 -- s′ is s as the machine holds it
-module _ (c x : Cause) (s s′ : ℤ) (same : s′ ≡ s) (is : c ≡ x) where
-  pub nak-applies : applies x ≡ true → Nak c s′ ≡ nakOr s c
+module _ (c : Cause) (b : Bool) (s s′ : ℤ) (same : s′ ≡ s) (is : b ≡ applies c) where
+  pub nak-applies : b ≡ true → Nak c s′ ≡ nakOr s c
   unfolding nakOr
-  nak-applies h = rw (same, is, h)
+  nak-applies h = rw (same, ← is, h)
 
-  pub nak-passes : applies x ≡ false → Passed s′ ≡ nakOr s c
+  pub nak-passes : b ≡ false → Passed s′ ≡ nakOr s c
   unfolding nakOr
-  nak-passes h = rw (same, is, h)
+  nak-passes h = rw (same, ← is, h)
 
 -- D4: what the comparison says
 pub signed-law : (secret p : List ℕ) (n : ℕ) (r : Bool) → Sized p n → r ≡ equalBytes (part 4 16 p) (authenticator zeros p n secret) → r ≡ signedBy secret p

@@ -1,7 +1,7 @@
 // The verdict on a request before any session is looked at.
 pub mod limits; // limits.rt: R2 and R3
 pub mod mac; // mac.rt: D5
-mod nak; // nak.rt: causes 1 to 6
+pub mod nak; // nak.rt: causes 1 to 6
 
 ghost use mathlib.Core.Path.{_≡_};
 ghost use mathlib.Core.Bool.{true};

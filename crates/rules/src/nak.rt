@@ -4,22 +4,32 @@ ghost use Prim.Native.Nat.{_<_};
 ghost use lib.ListN.{length};
 ghost use Rattle.packets.specs.Packet.{codeOf, areaOf};
 ghost use Rattle.survey.specs.Survey.{Surveyed};
-ghost use Rattle.rules.specs.Verdict.{nakOr, freshVerdict};
+ghost use Rattle.rules.specs.Verdict.{applies, nakOr, freshVerdict};
 
-// A cause is a NAK.
+// A cause applies.
+pub fn applies(cause: causes::Cause) -> bool
+    ensures { λ r. ⌜ r ≡ applies cause ⌝ }
+{
+    match cause {
+        causes::Cause::NoCause => false,
+        causes::Cause::UnsupportedAttribute => true,
+        causes::Cause::MissingAttribute => true,
+        causes::Cause::IdentificationMismatch => true,
+        causes::Cause::InvalidRequest => true,
+        causes::Cause::UnsupportedService => true,
+        causes::Cause::SessionNotFound => true,
+        causes::Cause::ResourcesUnavailable => true,
+    }
+}
+
+// Then it is a NAK.
 fn nak_or(cause: causes::Cause, skew: i64) -> super::Verdict
     ensures { λ r. ⌜ r ≡ nakOr skew cause ⌝ }
 {
-    match cause {
-        causes::Cause::NoCause => super::Verdict::Passed(skew),
-        causes::Cause::UnsupportedAttribute => super::Verdict::Nak(cause, skew),
-        causes::Cause::MissingAttribute => super::Verdict::Nak(cause, skew),
-        causes::Cause::IdentificationMismatch => super::Verdict::Nak(cause, skew),
-        causes::Cause::InvalidRequest => super::Verdict::Nak(cause, skew),
-        causes::Cause::UnsupportedService => super::Verdict::Nak(cause, skew),
-        causes::Cause::SessionNotFound => super::Verdict::Nak(cause, skew),
-        causes::Cause::ResourcesUnavailable => super::Verdict::Nak(cause, skew),
+    if applies(cause) {
+        return super::Verdict::Nak(cause, skew);
     }
+    super::Verdict::Passed(skew)
 }
 
 // Causes 1 to 6 of a fresh request.
