@@ -7,4 +7,3 @@ pub mod Types
 pub mod Held
 pub mod Turning
 pub mod Passes
-pub mod Values

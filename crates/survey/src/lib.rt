@@ -13,7 +13,6 @@ use marks::unmarked;
 
 mod classes;
 mod counts;
-pub mod kept;
 mod marks;
 
 // The flags of a pass.

@@ -1,9 +1,9 @@
--- `survey::kept::value_of` meets its contract: the part of the area that starts behind type and length.
+-- `lookup::value_of` meets its contract: the part of the area that starts behind type and length.
 -- Assumes nothing.
 use borrow.Author.Needs.{needs}
-use Rattle.survey.proofs.Values.{kept-part}
-use Rattle.survey.proofs.kept.value_of.Statement.{statement}
-use Rattle.survey.proofs.kept.value_of.Tie as tie
+use Rattle.lookup.proofs.Values.{kept-part}
+use Rattle.lookup.proofs.value_of.Statement.{statement}
+use Rattle.lookup.proofs.value_of.Tie as tie
 
 pub value-of-spec : {M : Type 1} → statement M
 value-of-spec =
