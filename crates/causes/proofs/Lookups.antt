@@ -17,7 +17,7 @@ use Rattle.survey.specs.declared.Flags.{Flags}
 use Rattle.survey.specs.Survey.{Surveyed, endOf, sizeOf}
 use Rattle.survey.specs.Turns.{keptValue}
 use Rattle.survey.proofs.Repeats.{at-most-once}
-use Rattle.survey.proofs.Values.{kept-attribute, seen-any}
+use Rattle.lookup.proofs.Values.{kept-attribute, seen-any}
 use Rattle.causes.specs.Causes.{differing, mismatched, missing, oversized}
 use Rattle.causes.specs.Later.{differsAt, missingBy}
 

@@ -2,8 +2,8 @@
 ghost use mathlib.Core.Path.{_≡_};
 ghost use Rattle.octets.specs.Numbers.{beBytes};
 ghost use Rattle.causes.specs.Later.{differsAt, missingBy};
-use survey::kept::has;
-use survey::kept::value_of;
+use lookup::has;
+use lookup::value_of;
 
 // 403: the first attribute of this type has another value than our own.
 pub fn other_value(

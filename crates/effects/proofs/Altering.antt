@@ -15,7 +15,7 @@ use Rattle.attributes.specs.Attributes.{attributes, any, found, firstOf, kindIs
 use Rattle.attributes.proofs.Stands.{first-placed}
 use Rattle.survey.specs.declared.Flags.{Flags}
 use Rattle.survey.specs.Survey.{Surveyed, endOf, sizeOf, seenAt}
-use Rattle.survey.proofs.Values.{seen-any}
+use Rattle.lookup.proofs.Values.{seen-any}
 use Rattle.survey.specs.Types.{member, sixTypes, misfitting}
 use Rattle.causes.proofs.Passed.{first-six}
 use Rattle.sessions.specs.declared.Change.the-variants.{End, Alter}

@@ -18,7 +18,7 @@ use Rattle.survey.specs.Types.{firstRepeated, none}
 use Rattle.survey.specs.Survey.{Surveyed, endOf, sizeOf}
 use Rattle.survey.specs.Turns.{keptValue}
 use Rattle.survey.proofs.Repeats.{at-most-once}
-use Rattle.survey.proofs.Values.{kept-attribute, seen-any}
+use Rattle.lookup.proofs.Values.{kept-attribute, seen-any}
 use Rattle.criteria.specs.declared.Criterion.{Criterion}
 use Rattle.criteria.specs.declared.Field.{Field}
 use Rattle.criteria.specs.declared.Field.the-variants.{UserName, NasPort, FramedAddress, CallingStation, SessionId}

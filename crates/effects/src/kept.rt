@@ -56,7 +56,7 @@ pub fn with(
     requires { ⌜ c .count < 5 ⌝ }
     ensures { λ r. ⌜ (listed r ≡ listed c ++ ifKept field kind (now (count .entry)) (now (ends .entry)) (now (sizes .entry))) × (r .count ≤ c .count + 1) ⌝ }
 {
-    if survey::kept::has(count, kind) {
+    if lookup::has(count, kind) {
         let at = place(ends, sizes, kind);
         let size = size(sizes, kind);
         let n = c.count;
@@ -78,7 +78,7 @@ pub fn number(
     requires { ⌜ ((seenAt (now count) kind ≡ true → keptPlace kind (now ends) (now sizes) + 4 ≤ length (now s))) ⌝ }
     ensures { λ r. ⌜ r ≡ keptNumber (now (s .entry)) kind (now (count .entry)) (now (ends .entry)) (now (sizes .entry)) ⌝ }
 {
-    if survey::kept::has(count, kind) {
+    if lookup::has(count, kind) {
         return sessions::Number::Set(octets::be32(s, place(ends, sizes, kind)));
     }
     sessions::Number::Keep
@@ -88,7 +88,7 @@ pub fn number(
 pub fn text(kind: u8, count: &[u8; 256], ends: &[u16; 256], sizes: &[u8; 256]) -> sessions::Text
     ensures { λ r. ⌜ r ≡ keptText kind (now (count .entry)) (now (ends .entry)) (now (sizes .entry)) ⌝ }
 {
-    if survey::kept::has(count, kind) {
+    if lookup::has(count, kind) {
         return sessions::Text::Value(place(ends, sizes, kind), size(sizes, kind));
     }
     sessions::Text::Same

@@ -14,7 +14,7 @@ use Rattle.attributes.specs.Attributes.{attributes, any, kindIs}
 use Rattle.signing.specs.Signing.{zeros, authenticator}
 use Rattle.survey.specs.declared.Flags.{Flags}
 use Rattle.survey.specs.Survey.{Surveyed, seenAt}
-use Rattle.survey.proofs.Values.{seen-any}
+use Rattle.lookup.proofs.Values.{seen-any}
 use Rattle.causes.specs.declared.Cause.{Cause}
 use Rattle.packets.specs.Packet.{codeOf, authOf, areaOf}
 use Rattle.packets.specs.Discards.{formOf, badLength, badCode, badAttributes, Sized}

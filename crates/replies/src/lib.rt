@@ -29,7 +29,7 @@ pub fn write_reply(
 {
     let s = octets::slice(p, 20, n - 20);
     let auth = octets::slice(p, 4, 16);
-    let present = survey::kept::has(count, 80);
+    let present = lookup::has(count, 80);
     let body = reply::put_body(&mut *reply, s, p[0], cause, f, count, ends, sizes);
     let e = frames::put_room(&mut *reply, body, present);
     reply::put_head(&mut *reply, p, cause, e, auth);

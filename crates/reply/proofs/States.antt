@@ -17,7 +17,7 @@ use Rattle.attributes.proofs.Stands.{first-stands}
 use Rattle.attributes.proofs.Searches.{first-passes}
 use Rattle.survey.specs.declared.Flags.{Flags}
 use Rattle.survey.specs.Survey.{Surveyed, seenAt, endOf, sizeOf}
-use Rattle.survey.proofs.Values.{seen-any}
+use Rattle.lookup.proofs.Values.{seen-any}
 use Rattle.reply.specs.Reply.{asCame, ifFound, statePart}
 
 -- an attribute that stands where it says, and is the first State

@@ -47,9 +47,9 @@ fn put_state(
     ensures { λ r. ⌜ now (t .exit) ≡ write (now (t .entry)) to (statePart (now (s .entry))) ⌝ }
     ensures { λ r. ⌜ r ≡ to + length (statePart (now (s .entry))) ⌝ }
 {
-    if survey::kept::has(count, 24) {
+    if lookup::has(count, 24) {
         let size = sizes[24];
-        let at = survey::kept::end_of(ends, 24) - wide(size);
+        let at = lookup::end_of(ends, 24) - wide(size);
         let a = Attribute { kind: 24, at, size };
         return put_attribute(t, to, s, a);
     }

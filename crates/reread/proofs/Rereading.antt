@@ -14,7 +14,7 @@ use Rattle.attributes.specs.Attributes.{attributes, any, found, firstOf, onFirs
 use Rattle.attributes.proofs.Searches.{only}
 use Rattle.survey.specs.declared.Flags.{Flags}
 use Rattle.survey.specs.Survey.{Surveyed, seenAt, sizeOf}
-use Rattle.survey.proofs.Values.{seen-any}
+use Rattle.lookup.proofs.Values.{seen-any}
 use Rattle.causes.specs.declared.Cause as C
 use Rattle.causes.specs.declared.Cause.the-variants as K
 use Rattle.causes.specs.Causes.{causeOf}

@@ -32,7 +32,7 @@ pub fn holds(n: usize, q: &[u8]) -> bool
 fn plain_mac(count: &[u8; 256], sizes: &[u8; 256]) -> bool
     ensures { λ r. ⌜ r ≡ not (seenAt (now (count .entry)) 80 && not (eqb (getD (now (sizes .entry)) 80 0) 18)) ⌝ }
 {
-    if survey::kept::has(count, 80) {
+    if lookup::has(count, 80) {
         return sizes[80] == 18;
     }
     true

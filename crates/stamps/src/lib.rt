@@ -22,7 +22,7 @@ pub fn stamp_of(
 {
     if count[55] == 1 {
         if sizes[55] == 6 {
-            let end = survey::kept::end_of(ends, 55);
+            let end = lookup::end_of(ends, 55);
             return Stamp::Usable(octets::be32(s, end - 4));
         }
         return Stamp::Unusable;
