@@ -9,9 +9,9 @@ use lib.ListN.{length, replicate}
 use Rattle.octets.specs.Runs.{write}
 use Rattle.slots.specs.Slot.{slotCount, slot, live, within}
 use Rattle.slots.proofs.Live.{passed, refused}
+use Rattle.records.specs.Record.{Session, recordOf, fitsRecord}
 use Rattle.sessions.specs.declared.Inserted.the-variants.{Slot, NotInserted}
 use Rattle.sessions.specs.declared.Removed.the-variants.{Gone, NotRemoved}
-use Rattle.records.specs.Record.{Session, recordOf, fitsRecord}
 use Rattle.sessions.specs.Session.{idLive, freeFrom, insertAnswer, insertTable, removeAnswer, removeTable}
 
 -- ---- a start: n slots, f whether the texts fit, i whether the id is live, k the lowest free slot

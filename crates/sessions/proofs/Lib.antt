@@ -1,11 +1,4 @@
-pub mod Put
-pub mod Alter
-pub mod Slots
-pub mod Turns
 pub mod Free
 pub mod Answers
-pub mod Changed
-pub mod Kept
-pub mod Written
 pub mod Starts
 pub mod Ends

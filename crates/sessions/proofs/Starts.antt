@@ -11,11 +11,11 @@ use lib.Dec.{eqb}
 use lib.ListN.{length}
 use Rattle.slots.specs.Slot.{slotCount, slot, live}
 use Rattle.slots.proofs.Places.{slot-written, slot-written-other}
-use Rattle.sessions.specs.declared.Inserted.the-variants.{Slot, NotInserted}
 use Rattle.records.specs.Record.{Session, recordOf, fitsRecord}
+use Rattle.records.proofs.Recorded.{recorded-length}
+use Rattle.sessions.specs.declared.Inserted.the-variants.{Slot, NotInserted}
 use Rattle.sessions.specs.Session.{idLive, lowestFree, insertAnswer, insertTable}
 use Rattle.sessions.proofs.Free.{free-fits, found-free}
-use Rattle.records.proofs.Recorded.{recorded-length}
 
 pub record Started (x : Session) (t : List ℕ) (k : ℕ) : Type 0 where
   pub fits : fitsRecord x ≡ true

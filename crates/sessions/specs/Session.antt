@@ -7,11 +7,11 @@ use lib.Dec.{eqb, ltb}
 use lib.ListN.{replicate}
 use Rattle.octets.specs.Runs.{write, equalBytes}
 use Rattle.slots.specs.Slot.{slotCount, slot, live, sessionId}
+use Rattle.records.specs.Record.{Session, recordOf, fitsRecord}
 use Rattle.sessions.specs.declared.Inserted.{Inserted}
 use Rattle.sessions.specs.declared.Inserted.the-variants.{Slot, NotInserted}
 use Rattle.sessions.specs.declared.Removed.{Removed}
 use Rattle.sessions.specs.declared.Removed.the-variants.{Gone, NotRemoved}
-use Rattle.records.specs.Record.{Session, recordOf, fitsRecord}
 
 -- R9: one of the first k slots is live with this Acct-Session-Id
 unfoldable pub idLive : List ℕ → List ℕ → ℕ → Bool

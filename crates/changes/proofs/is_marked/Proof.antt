@@ -1,9 +1,9 @@
--- `sessions::is_marked` meets its contract: a slot that is not marked fails, else its liveness decides.
+-- `changes::is_marked` meets its contract: a slot that is not marked fails, else its liveness decides.
 -- Assumes nothing.
-use Rattle.sessions.proofs.Slots.{mark-none, mark-live}
+use Rattle.changes.proofs.Slots.{mark-none, mark-live}
 use borrow.Author.Needs.{needs}
-use Rattle.sessions.proofs.is_marked.Statement.{statement}
-use Rattle.sessions.proofs.is_marked.Tie as tie
+use Rattle.changes.proofs.is_marked.Statement.{statement}
+use Rattle.changes.proofs.is_marked.Tie as tie
 
 returns : tie.Need-returns
 returns c = search (needs, mark-none)

@@ -2,7 +2,7 @@
 ghost use mathlib.Core.Path.{_≡_};
 ghost use Prim.Native.Nat.{_+_, _≤_};
 ghost use lib.ListN.{length};
-ghost use Rattle.sessions.specs.Change.{setNumber, setText};
+ghost use Rattle.changes.specs.Change.{setNumber, setText};
 
 // Writes a number where the request names it.
 pub fn set_number(t: &mut [u8], at: usize, x: super::Number)

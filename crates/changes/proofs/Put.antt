@@ -6,11 +6,11 @@ use Prim.Native.Nat.{ℕ}
 use Rattle.octets.specs.Numbers.{beBytes}
 use Rattle.octets.specs.Runs.{part, write}
 use Rattle.records.specs.Record.{textField}
-use Rattle.sessions.specs.declared.Number.{Number}
-use Rattle.sessions.specs.declared.Number.the-variants.{Keep, Set}
-use Rattle.sessions.specs.declared.Text.{Text}
-use Rattle.sessions.specs.declared.Text.the-variants.{Same, Value}
-use Rattle.sessions.specs.Change.{setNumber, setText}
+use Rattle.changes.specs.declared.Number.{Number}
+use Rattle.changes.specs.declared.Number.the-variants.{Keep, Set}
+use Rattle.changes.specs.declared.Text.{Text}
+use Rattle.changes.specs.declared.Text.the-variants.{Same, Value}
+use Rattle.changes.specs.Change.{setNumber, setText}
 
 module _ (x : Number) (t : List ℕ) (at : ℕ) where
   pub number-kept : x ≡ Keep → t ≡ setNumber x at t

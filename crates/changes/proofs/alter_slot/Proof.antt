@@ -1,9 +1,9 @@
--- `sessions::alter_slot` meets its contract: each field written in the table is that field written in the slot.
+-- `changes::alter_slot` meets its contract: each field written in the table is that field written in the slot.
 -- Assumes nothing.
-use Rattle.sessions.proofs.Alter.{altered-in}
+use Rattle.changes.proofs.Alter.{altered-in}
 use borrow.Author.Needs.{needs}
-use Rattle.sessions.proofs.alter_slot.Statement.{statement}
-use Rattle.sessions.proofs.alter_slot.Tie as tie
+use Rattle.changes.proofs.alter_slot.Statement.{statement}
+use Rattle.changes.proofs.alter_slot.Tie as tie
 
 returns : tie.Need-returns
 returns c = search (needs, altered-in)

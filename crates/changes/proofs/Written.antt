@@ -10,18 +10,18 @@ use lib.ListN.{length, take}
 use Rattle.octets.specs.Numbers.{be, beBytes}
 use Rattle.octets.specs.Runs.{part, write}
 use Rattle.octets.proofs.Numbers.{length-beBytes, be-before, be-behind, be-written}
-use Rattle.records.specs.Record.{textField}
 use Rattle.slots.specs.Slot.{live, text, sessionTimeout, idleTimeout, filterId}
 use Rattle.slots.proofs.Kept.{text-behind}
-use Rattle.sessions.specs.declared.Alteration.{Alteration}
-use Rattle.sessions.specs.declared.Change.the-variants.{End}
-use Rattle.sessions.specs.declared.Number.{Number}
-use Rattle.sessions.specs.declared.Number.the-variants.{Keep, Set}
-use Rattle.sessions.specs.declared.Text.{Text}
-use Rattle.sessions.specs.declared.Text.the-variants.{Same, Value}
-use Rattle.sessions.specs.Change.{setNumber, setText, altered, changed}
-use Rattle.sessions.proofs.Alter.{length-setNumber}
+use Rattle.records.specs.Record.{textField}
 use Rattle.records.proofs.Texts.{field-written, text-there}
+use Rattle.changes.specs.declared.Alteration.{Alteration}
+use Rattle.changes.specs.declared.Change.the-variants.{End}
+use Rattle.changes.specs.declared.Number.{Number}
+use Rattle.changes.specs.declared.Number.the-variants.{Keep, Set}
+use Rattle.changes.specs.declared.Text.{Text}
+use Rattle.changes.specs.declared.Text.the-variants.{Same, Value}
+use Rattle.changes.specs.Change.{setNumber, setText, altered, changed}
+use Rattle.changes.proofs.Alter.{length-setNumber}
 
 pub ended-free : (p s : List ℕ) → live (changed p End s) ≡ false
 unfolding changed live

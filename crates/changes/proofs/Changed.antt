@@ -11,13 +11,13 @@ use lib.Dec.{eqb}
 use lib.ListN.{length}
 use Rattle.octets.specs.Runs.{write}
 use Rattle.slots.specs.Slot.{slotCount, slot, live}
-use Rattle.criteria.specs.Marks.{marksAfter, countTo}
 use Rattle.slots.proofs.Count.{counted}
-use Rattle.criteria.proofs.Marked.{mark-at, count-same}
 use Rattle.slots.proofs.Places.{length-slot, slot-short, slot-written, slots-commute}
-use Rattle.sessions.specs.declared.Change.{Change}
-use Rattle.sessions.specs.Change.{changed, changeAt, marked, changeMarked, countMarked}
-use Rattle.sessions.proofs.Slots.{length-changed, changed-short, change-other, length-changeMarked, other-by, slot-later}
+use Rattle.criteria.specs.Marks.{marksAfter, countTo}
+use Rattle.criteria.proofs.Marked.{mark-at, count-same}
+use Rattle.changes.specs.declared.Change.{Change}
+use Rattle.changes.specs.Change.{changed, changeAt, marked, changeMarked, countMarked}
+use Rattle.changes.proofs.Slots.{length-changed, changed-short, change-other, length-changeMarked, other-by, slot-later}
 
 pub change-here : (p : List ℕ) (c : Change) (k : ℕ) (t : List ℕ) → (k + 1) * 192 ≤ length t → slot k (changeAt p c k t) ≡ changed p c (slot k t)
 unfolding changeAt

@@ -12,23 +12,23 @@ use Rattle.octets.specs.Numbers.{beBytes}
 use Rattle.octets.specs.Runs.{part, write}
 use Rattle.octets.proofs.Numbers.{length-beBytes}
 use Rattle.octets.proofs.Part.{byte-part, part-before, part-behind}
-use Rattle.records.specs.Record.{textField}
-use Rattle.records.proofs.Fields.{length-textField}
+use Rattle.slots.specs.Slot.{live, within, text}
+use Rattle.slots.proofs.Live.{within-is}
+use Rattle.slots.proofs.Kept.{live-by, live-user, live-id, live-station, live-filter}
 use Rattle.criteria.specs.declared.Criterion.{Criterion}
 use Rattle.criteria.specs.declared.Field.{Field}
 use Rattle.criteria.specs.declared.Field.the-variants.{UserName, NasPort, FramedAddress, CallingStation, SessionId}
-use Rattle.slots.specs.Slot.{live, within, text}
 use Rattle.criteria.specs.Matching.{fieldBytes, meets, all, matches}
-use Rattle.slots.proofs.Live.{within-is}
-use Rattle.slots.proofs.Kept.{live-by, live-user, live-id, live-station, live-filter}
-use Rattle.sessions.specs.declared.Alteration.{Alteration}
-use Rattle.sessions.specs.declared.Number.{Number}
-use Rattle.sessions.specs.declared.Number.the-variants.{Keep, Set}
-use Rattle.sessions.specs.declared.Text.{Text}
-use Rattle.sessions.specs.declared.Text.the-variants.{Same, Value}
-use Rattle.sessions.specs.Change.{setNumber, setText, altered}
-use Rattle.sessions.proofs.Alter.{length-setNumber}
+use Rattle.records.specs.Record.{textField}
+use Rattle.records.proofs.Fields.{length-textField}
 use Rattle.records.proofs.Texts.{field-written, head-there}
+use Rattle.changes.specs.declared.Alteration.{Alteration}
+use Rattle.changes.specs.declared.Number.{Number}
+use Rattle.changes.specs.declared.Number.the-variants.{Keep, Set}
+use Rattle.changes.specs.declared.Text.{Text}
+use Rattle.changes.specs.declared.Text.the-variants.{Same, Value}
+use Rattle.changes.specs.Change.{setNumber, setText, altered}
+use Rattle.changes.proofs.Alter.{length-setNumber}
 
 -- a byte is a part of one
 same-byte : (l m : List ℕ) (j : ℕ) → part j 1 l ≡ part j 1 m → getD l j 0 ≡ getD m j 0

@@ -9,17 +9,17 @@ use Rattle.octets.specs.Numbers.{beBytes}
 use Rattle.octets.specs.Runs.{part, write}
 use Rattle.octets.proofs.Numbers.{length-beBytes}
 use Rattle.octets.proofs.Write.{length-write}
-use Rattle.records.specs.Record.{textField}
-use Rattle.records.proofs.Fields.{length-textField}
 use Rattle.slots.specs.Slot.{slot}
 use Rattle.slots.proofs.Overwrite.{write-in}
 use Rattle.slots.proofs.Places.{slot-same, length-slot}
-use Rattle.sessions.specs.declared.Alteration.{Alteration}
-use Rattle.sessions.specs.declared.Number.{Number}
-use Rattle.sessions.specs.declared.Number.the-variants.{Keep, Set}
-use Rattle.sessions.specs.declared.Text.{Text}
-use Rattle.sessions.specs.declared.Text.the-variants.{Same, Value}
-use Rattle.sessions.specs.Change.{setNumber, setText, altered}
+use Rattle.records.specs.Record.{textField}
+use Rattle.records.proofs.Fields.{length-textField}
+use Rattle.changes.specs.declared.Alteration.{Alteration}
+use Rattle.changes.specs.declared.Number.{Number}
+use Rattle.changes.specs.declared.Number.the-variants.{Keep, Set}
+use Rattle.changes.specs.declared.Text.{Text}
+use Rattle.changes.specs.declared.Text.the-variants.{Same, Value}
+use Rattle.changes.specs.Change.{setNumber, setText, altered}
 
 pub length-setNumber : (x : Number) (i : ℕ) (s : List ℕ) → length (setNumber x i s) ≡ length s
 unfolding setNumber

@@ -1,9 +1,9 @@
--- `sessions::fields::set_text` meets its contract: each variant is a case of the definition.
+-- `changes::fields::set_text` meets its contract: each variant is a case of the definition.
 -- Assumes nothing.
-use Rattle.sessions.proofs.Put.{text-kept, text-set}
+use Rattle.changes.proofs.Put.{text-kept, text-set}
 use borrow.Author.Needs.{needs}
-use Rattle.sessions.proofs.fields.set_text.Statement.{statement}
-use Rattle.sessions.proofs.fields.set_text.Tie as tie
+use Rattle.changes.proofs.fields.set_text.Statement.{statement}
+use Rattle.changes.proofs.fields.set_text.Tie as tie
 
 returns : tie.Need-returns
 returns c = search (needs, text-kept)

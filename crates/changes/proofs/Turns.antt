@@ -10,11 +10,11 @@ use native.Mathlib.Omega.{arith}
 use lib.Dec.{eqb}
 use lib.ListN.{length, getD}
 use Rattle.slots.specs.Slot.{slotCount, slot, live}
-use Rattle.criteria.specs.Marks.{countTo}
 use Rattle.slots.proofs.Count.{Counted}
-use Rattle.sessions.specs.declared.Change.{Change}
-use Rattle.sessions.specs.Change.{changeAt, marked, changeMarked, countMarked}
-use Rattle.sessions.proofs.Slots.{length-changeMarked, slot-later}
+use Rattle.criteria.specs.Marks.{countTo}
+use Rattle.changes.specs.declared.Change.{Change}
+use Rattle.changes.specs.Change.{changeAt, marked, changeMarked, countMarked}
+use Rattle.changes.proofs.Slots.{length-changeMarked, slot-later}
 
 pub none-changed : (p : List ℕ) (c : Change) (marks t : List ℕ) → t ≡ changeMarked p c marks 0 t
 unfolding changeMarked

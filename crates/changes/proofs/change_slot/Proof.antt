@@ -1,9 +1,9 @@
--- `sessions::change_slot` meets its contract: each variant is a case of the definition.
+-- `changes::change_slot` meets its contract: each variant is a case of the definition.
 -- Assumes nothing.
-use Rattle.sessions.proofs.Slots.{change-end, change-alter}
+use Rattle.changes.proofs.Slots.{change-end, change-alter}
 use borrow.Author.Needs.{needs}
-use Rattle.sessions.proofs.change_slot.Statement.{statement}
-use Rattle.sessions.proofs.change_slot.Tie as tie
+use Rattle.changes.proofs.change_slot.Statement.{statement}
+use Rattle.changes.proofs.change_slot.Tie as tie
 
 returns : tie.Need-returns
 returns c = search (needs, change-end)

@@ -7,16 +7,16 @@ use lib.Dec.{eqb}
 use lib.ListN.{getD, replicate}
 use Rattle.octets.specs.Numbers.{beBytes}
 use Rattle.octets.specs.Runs.{part, write}
-use Rattle.records.specs.Record.{textField}
 use Rattle.slots.specs.Slot.{live, slot}
 use Rattle.criteria.specs.Marks.{countTo}
-use Rattle.sessions.specs.declared.Change.{Change}
-use Rattle.sessions.specs.declared.Change.the-variants.{End, Alter}
-use Rattle.sessions.specs.declared.Alteration.{Alteration}
-use Rattle.sessions.specs.declared.Number.{Number}
-use Rattle.sessions.specs.declared.Number.the-variants.{Keep, Set}
-use Rattle.sessions.specs.declared.Text.{Text}
-use Rattle.sessions.specs.declared.Text.the-variants.{Same, Value}
+use Rattle.records.specs.Record.{textField}
+use Rattle.changes.specs.declared.Change.{Change}
+use Rattle.changes.specs.declared.Change.the-variants.{End, Alter}
+use Rattle.changes.specs.declared.Alteration.{Alteration}
+use Rattle.changes.specs.declared.Number.{Number}
+use Rattle.changes.specs.declared.Number.the-variants.{Keep, Set}
+use Rattle.changes.specs.declared.Text.{Text}
+use Rattle.changes.specs.declared.Text.the-variants.{Same, Value}
 
 -- all 32 bits of a number, where the request names it
 unfoldable pub setNumber : Number → ℕ → List ℕ → List ℕ

@@ -1,9 +1,9 @@
--- `sessions::fields::set_number` meets its contract: each variant is a case of the definition.
+-- `changes::fields::set_number` meets its contract: each variant is a case of the definition.
 -- Assumes nothing.
-use Rattle.sessions.proofs.Put.{number-kept, number-set}
+use Rattle.changes.proofs.Put.{number-kept, number-set}
 use borrow.Author.Needs.{needs}
-use Rattle.sessions.proofs.fields.set_number.Statement.{statement}
-use Rattle.sessions.proofs.fields.set_number.Tie as tie
+use Rattle.changes.proofs.fields.set_number.Statement.{statement}
+use Rattle.changes.proofs.fields.set_number.Tie as tie
 
 returns : tie.Need-returns
 returns c = search (needs, number-kept)

@@ -1,15 +1,15 @@
--- `sessions::change_marked` meets its contract: table and count are those of the slots passed.
+-- `changes::change_marked` meets its contract: table and count are those of the slots passed.
 -- Assumes nothing.
 use Prim.Native.Nat.{_≤_, _-_}
 use mathlib.Core.Path.{_≡_}
 use mathlib.Core.Logic.{⊎-elim}
 use lib.ListN.{length}
 use Rattle.slots.proofs.Count.{Counted, counted-is}
-use Rattle.sessions.specs.Change.{changeMarked, countMarked}
-use Rattle.sessions.proofs.Turns.{none-changed, none-counted, walk-fits, walk-long, turn-changed, turn-kept, turn-counted, turn-passed, all-changed, all-counted}
+use Rattle.changes.specs.Change.{changeMarked, countMarked}
+use Rattle.changes.proofs.Turns.{none-changed, none-counted, walk-fits, walk-long, turn-changed, turn-kept, turn-counted, turn-passed, all-changed, all-counted}
 use borrow.Author.Needs.{needs}
-use Rattle.sessions.proofs.change_marked.Statement.{statement}
-use Rattle.sessions.proofs.change_marked.Tie as tie
+use Rattle.changes.proofs.change_marked.Statement.{statement}
+use Rattle.changes.proofs.change_marked.Tie as tie
 
 abbrev Inv-loop : tie.InvT-loop
 Inv-loop t₀ p marks c n count₀ k₀ t count k = (k ≤ n) × (count ≤ k) × Counted n (length t₀) × (count ≡ countMarked marks k t₀) × (t ≡ changeMarked p c marks k t₀)

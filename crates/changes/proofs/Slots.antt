@@ -11,11 +11,11 @@ use Rattle.octets.specs.Runs.{write}
 use Rattle.octets.proofs.Write.{length-write}
 use Rattle.slots.specs.Slot.{slot, live}
 use Rattle.slots.proofs.Places.{slot-written-other, slot-short}
-use Rattle.sessions.specs.declared.Alteration.{Alteration}
-use Rattle.sessions.specs.declared.Change.{Change}
-use Rattle.sessions.specs.declared.Change.the-variants.{End, Alter}
-use Rattle.sessions.specs.Change.{altered, changed, changeAt, marked, changeMarked}
-use Rattle.sessions.proofs.Alter.{length-altered}
+use Rattle.changes.specs.declared.Alteration.{Alteration}
+use Rattle.changes.specs.declared.Change.{Change}
+use Rattle.changes.specs.declared.Change.the-variants.{End, Alter}
+use Rattle.changes.specs.Change.{altered, changed, changeAt, marked, changeMarked}
+use Rattle.changes.proofs.Alter.{length-altered}
 
 pub length-changed : (p : List ℕ) (c : Change) (s : List ℕ) → length s ≡ 192 → length (changed p c s) ≡ 192
 unfolding changed

@@ -1,0 +1,7 @@
+pub mod Put
+pub mod Alter
+pub mod Slots
+pub mod Turns
+pub mod Changed
+pub mod Kept
+pub mod Written
