@@ -10,8 +10,8 @@ use Rattle.octets.specs.Runs.{write}
 use Rattle.attributes.specs.Attributes.{attributes, any}
 use Rattle.survey.specs.Types.{misfitting}
 use Rattle.slots.specs.Slot.{slotCount}
-use Rattle.sessions.specs.declared.Change.{Change}
-use Rattle.sessions.specs.Change.{changeMarked, countMarked}
+use Rattle.changes.specs.declared.Change.{Change}
+use Rattle.changes.specs.Change.{changeMarked, countMarked}
 use Rattle.causes.specs.declared.Cause.the-variants.{SessionNotFound, NoCause}
 use Rattle.packets.specs.Packet.{codeOf, areaOf}
 use Rattle.reply.specs.Reply.{replyLength, replyOf}

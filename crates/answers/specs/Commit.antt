@@ -7,7 +7,7 @@ use Prim.Native.Nat.{ℕ}
 use lib.Dec.{eqb}
 use lib.IntN.{ℤ}
 use Rattle.slots.specs.Slot.{slotCount}
-use Rattle.sessions.specs.Change.{changeMarked, countMarked}
+use Rattle.changes.specs.Change.{changeMarked, countMarked}
 use Rattle.causes.specs.declared.Cause.the-variants.{SessionNotFound, NoCause}
 use Rattle.packets.specs.Packet.{codeOf, areaOf}
 use Rattle.reply.specs.Reply.{replyLength}

@@ -71,7 +71,7 @@ pub fn commit(
 {
     let s = octets::slice(p, 20, n - 20);
     let c = effects::change(s, p[0], f, count, ends, sizes);
-    let changed = sessions::change_marked(t, s, marks, c);
+    let changed = changes::change_marked(t, s, marks, c);
     if changed == 0 {
         return nak(
             reply,

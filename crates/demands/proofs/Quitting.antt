@@ -10,7 +10,7 @@ use lib.IntN.{ℤ}
 use Rattle.survey.specs.Types.{member}
 use Rattle.stamps.specs.Stamp.{stampOf}
 use Rattle.slots.specs.Slot.{slotCount}
-use Rattle.sessions.specs.Change.{countMarked}
+use Rattle.changes.specs.Change.{countMarked}
 use Rattle.causes.specs.declared.Cause.the-variants.{SessionNotFound}
 use Rattle.rules.specs.declared.Verdict as R
 use Rattle.rules.specs.declared.Verdict.the-variants as J

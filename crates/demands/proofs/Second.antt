@@ -11,8 +11,8 @@ use lib.ListN.{getD, replicate}
 use mir.Syntax.{w8}
 use mir.Val.{Fits}
 use Rattle.slots.specs.Slot.{slotCount, slot}
-use Rattle.sessions.specs.Change.{changed}
-use Rattle.sessions.specs.Change as S
+use Rattle.changes.specs.Change.{changed}
+use Rattle.changes.specs.Change as S
 use Rattle.causes.specs.declared.Cause.{Cause}
 use Rattle.causes.proofs.Passed.{filter-first}
 use Rattle.packets.specs.Packet.{codeOf, lengthOf, areaOf}

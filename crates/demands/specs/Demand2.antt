@@ -15,7 +15,7 @@ use Rattle.attributes.specs.declared.Search.the-variants.{At, Missing}
 use Rattle.attributes.specs.Attributes.{attributes, valueOf, firstOf, kindIs}
 use Rattle.signing.specs.Signing.{zeros}
 use Rattle.slots.specs.Slot.{slotCount, slot, live, nasPort, framedAddress, sessionTimeout, idleTimeout, userName, sessionId, callingStation, filterId}
-use Rattle.sessions.specs.Change.{altered}
+use Rattle.changes.specs.Change.{altered}
 use Rattle.causes.specs.declared.Cause.{Cause}
 use Rattle.causes.specs.declared.Cause.the-variants.{NoCause}
 use Rattle.packets.specs.Packet.{codeOf, identifierOf, lengthOf, areaOf}

@@ -21,10 +21,10 @@ use Rattle.slots.specs.Slot.{slotCount, slot, live, nasPort, framedAddress, ses
 use Rattle.criteria.specs.Matching.{fieldBytes}
 use Rattle.slots.proofs.Count.{slot-fits}
 use Rattle.slots.proofs.Places.{length-slot}
-use Rattle.sessions.specs.declared.Alteration.{Alteration}
-use Rattle.sessions.specs.Change.{altered, changed}
-use Rattle.sessions.proofs.Kept.{part-low, field-kept, live-altered}
-use Rattle.sessions.proofs.Written.{timeout-set, timeout-kept, idle-set, idle-kept, filter-set, filter-kept}
+use Rattle.changes.specs.declared.Alteration.{Alteration}
+use Rattle.changes.specs.Change.{altered, changed}
+use Rattle.changes.proofs.Kept.{part-low, field-kept, live-altered}
+use Rattle.changes.proofs.Written.{timeout-set, timeout-kept, idle-set, idle-kept, filter-set, filter-kept}
 use Rattle.effects.specs.Matching.{matchesIn}
 use Rattle.effects.specs.Changes.{numberAt, textAt, alterationOf, changeOf, changeMatching}
 use Rattle.effects.proofs.Marked.{matching-live}

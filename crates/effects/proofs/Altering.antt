@@ -18,12 +18,12 @@ use Rattle.survey.specs.Survey.{Surveyed, endOf, sizeOf, seenAt}
 use Rattle.lookup.proofs.Values.{seen-any}
 use Rattle.survey.specs.Types.{member, sixTypes, misfitting}
 use Rattle.causes.proofs.Passed.{first-six}
-use Rattle.sessions.specs.declared.Change.the-variants.{End, Alter}
-use Rattle.sessions.specs.declared.Number.{Number}
-use Rattle.sessions.specs.declared.Number.the-variants.{Keep, Set}
-use Rattle.sessions.specs.declared.Alteration.{Alteration}
-use Rattle.sessions.specs.declared.Text.{Text}
-use Rattle.sessions.specs.declared.Text.the-variants.{Same, Value}
+use Rattle.changes.specs.declared.Change.the-variants.{End, Alter}
+use Rattle.changes.specs.declared.Number.{Number}
+use Rattle.changes.specs.declared.Number.the-variants.{Keep, Set}
+use Rattle.changes.specs.declared.Alteration.{Alteration}
+use Rattle.changes.specs.declared.Text.{Text}
+use Rattle.changes.specs.declared.Text.the-variants.{Same, Value}
 use Rattle.effects.specs.Changes.{numberAt, textAt, alterationOf, changeOf}
 use Rattle.effects.specs.Kept.{keptPlace, keptNumber, keptText}
 

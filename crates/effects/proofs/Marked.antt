@@ -13,9 +13,9 @@ use Rattle.survey.specs.Survey.{Surveyed}
 use Rattle.slots.specs.Slot.{slotCount, slot, live}
 use Rattle.criteria.specs.Matching.{matchesAt}
 use Rattle.criteria.specs.Marks.{marksAfter, countTo}
-use Rattle.sessions.specs.declared.Change.{Change}
-use Rattle.sessions.specs.Change.{changeAt, marked, changeMarked, countMarked}
-use Rattle.sessions.proofs.Changed.{named, named-counted}
+use Rattle.changes.specs.declared.Change.{Change}
+use Rattle.changes.specs.Change.{changeAt, marked, changeMarked, countMarked}
+use Rattle.changes.proofs.Changed.{named, named-counted}
 use Rattle.effects.specs.Kept.{keptCriteria}
 use Rattle.effects.specs.Matching.{sessionMatches, matchesIn, matchCount}
 use Rattle.effects.specs.Changes.{changeOf, changeWhere, changeMatching}

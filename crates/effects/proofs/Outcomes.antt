@@ -9,10 +9,10 @@ use Rattle.slots.specs.Slot.{slotCount, slot, live}
 use Rattle.criteria.specs.Marks.{marksAfter}
 use Rattle.slots.proofs.Count.{count-same}
 use Rattle.criteria.proofs.Marked.{count-none}
-use Rattle.sessions.specs.Change.{changed, changeMarked}
-use Rattle.sessions.proofs.Slots.{length-changeMarked}
-use Rattle.sessions.proofs.Changed.{named-changed}
-use Rattle.sessions.proofs.Written.{ended-free}
+use Rattle.changes.specs.Change.{changed, changeMarked}
+use Rattle.changes.proofs.Slots.{length-changeMarked}
+use Rattle.changes.proofs.Changed.{named-changed}
+use Rattle.changes.proofs.Written.{ended-free}
 use Rattle.effects.specs.Matching.{sessionMatches, matchesIn, matchCount}
 use Rattle.effects.specs.Changes.{changeOf, changeMatching}
 use Rattle.effects.proofs.Marked.{matching-live, changed-matching}

@@ -14,8 +14,8 @@ use Rattle.criteria.specs.declared.Field.the-variants.{UserName, NasPort, Frame
 use Rattle.criteria.specs.declared.Criterion.{Criterion}
 use Rattle.criteria.specs.declared.Criteria.{Criteria}
 use Rattle.criteria.specs.Matching.{listed}
-use Rattle.sessions.specs.declared.Number.the-variants.{Keep, Set}
-use Rattle.sessions.specs.declared.Text.the-variants.{Same, Value}
+use Rattle.changes.specs.declared.Number.the-variants.{Keep, Set}
+use Rattle.changes.specs.declared.Text.the-variants.{Same, Value}
 use Rattle.effects.specs.Kept.{keptPlace, keptSize, ifKept, keptCriteria, keptNumber, keptText}
 
 module _ (k : ℕ) (count ends sizes : List ℕ) (b : Bool) (is : b ≡ seenAt count k) where

@@ -10,14 +10,14 @@ use Rattle.attributes.specs.declared.Search.{Search}
 use Rattle.attributes.specs.declared.Search.the-variants.{At, Missing}
 use Rattle.attributes.specs.Attributes.{attributes, firstOf, kindIs}
 use Rattle.slots.specs.Slot.{slotCount}
-use Rattle.sessions.specs.declared.Change.{Change}
-use Rattle.sessions.specs.declared.Change.the-variants.{End, Alter}
-use Rattle.sessions.specs.declared.Alteration.{Alteration}
-use Rattle.sessions.specs.declared.Number.{Number}
-use Rattle.sessions.specs.declared.Number.the-variants.{Keep, Set}
-use Rattle.sessions.specs.declared.Text.{Text}
-use Rattle.sessions.specs.declared.Text.the-variants.{Same, Value}
-use Rattle.sessions.specs.Change.{changeAt}
+use Rattle.changes.specs.declared.Change.{Change}
+use Rattle.changes.specs.declared.Change.the-variants.{End, Alter}
+use Rattle.changes.specs.declared.Alteration.{Alteration}
+use Rattle.changes.specs.declared.Number.{Number}
+use Rattle.changes.specs.declared.Number.the-variants.{Keep, Set}
+use Rattle.changes.specs.declared.Text.{Text}
+use Rattle.changes.specs.declared.Text.the-variants.{Same, Value}
+use Rattle.changes.specs.Change.{changeAt}
 use Rattle.effects.specs.Matching.{matchesIn}
 
 -- the four bytes of a value as a number, and where a value lies; nothing where there is no such attribute

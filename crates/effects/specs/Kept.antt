@@ -9,10 +9,10 @@ use Rattle.survey.specs.Survey.{seenAt}
 use Rattle.criteria.specs.declared.Field.{Field}
 use Rattle.criteria.specs.declared.Field.the-variants.{UserName, NasPort, FramedAddress, CallingStation, SessionId}
 use Rattle.criteria.specs.declared.Criterion.{Criterion}
-use Rattle.sessions.specs.declared.Number.{Number}
-use Rattle.sessions.specs.declared.Number.the-variants.{Keep, Set}
-use Rattle.sessions.specs.declared.Text.{Text}
-use Rattle.sessions.specs.declared.Text.the-variants.{Same, Value}
+use Rattle.changes.specs.declared.Number.{Number}
+use Rattle.changes.specs.declared.Number.the-variants.{Keep, Set}
+use Rattle.changes.specs.declared.Text.{Text}
+use Rattle.changes.specs.declared.Text.the-variants.{Same, Value}
 
 -- where the value of the first attribute of type k lies, and how long it is
 abbrev pub keptPlace : ℕ → List ℕ → List ℕ → ℕ

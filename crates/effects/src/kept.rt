@@ -74,22 +74,22 @@ pub fn number(
     count: &[u8; 256],
     ends: &[u16; 256],
     sizes: &[u8; 256],
-) -> sessions::Number
+) -> changes::Number
     requires { ⌜ ((seenAt (now count) kind ≡ true → keptPlace kind (now ends) (now sizes) + 4 ≤ length (now s))) ⌝ }
     ensures { λ r. ⌜ r ≡ keptNumber (now (s .entry)) kind (now (count .entry)) (now (ends .entry)) (now (sizes .entry)) ⌝ }
 {
     if lookup::has(count, kind) {
-        return sessions::Number::Set(octets::be32(s, place(ends, sizes, kind)));
+        return changes::Number::Set(octets::be32(s, place(ends, sizes, kind)));
     }
-    sessions::Number::Keep
+    changes::Number::Keep
 }
 
 // A text that a CoA sets.
-pub fn text(kind: u8, count: &[u8; 256], ends: &[u16; 256], sizes: &[u8; 256]) -> sessions::Text
+pub fn text(kind: u8, count: &[u8; 256], ends: &[u16; 256], sizes: &[u8; 256]) -> changes::Text
     ensures { λ r. ⌜ r ≡ keptText kind (now (count .entry)) (now (ends .entry)) (now (sizes .entry)) ⌝ }
 {
     if lookup::has(count, kind) {
-        return sessions::Text::Value(place(ends, sizes, kind), size(sizes, kind));
+        return changes::Text::Value(place(ends, sizes, kind), size(sizes, kind));
     }
-    sessions::Text::Same
+    changes::Text::Same
 }

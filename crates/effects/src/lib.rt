@@ -38,14 +38,14 @@ fn alteration(
     count: &[u8; 256],
     ends: &[u16; 256],
     sizes: &[u8; 256],
-) -> sessions::Alteration
+) -> changes::Alteration
     requires { ⌜ Surveyed (now s) code f (now count) (now ends) (now sizes) × (any misfitting (attributes (now s)) ≡ false) ⌝ }
     ensures { λ r. ⌜ r ≡ alterationOf (now (s .entry)) ⌝ }
 {
     let timeout = kept::number(s, 27, count, ends, sizes);
     let idle = kept::number(s, 28, count, ends, sizes);
     let filter = kept::text(11, count, ends, sizes);
-    sessions::Alteration {
+    changes::Alteration {
         timeout,
         idle,
         filter,
@@ -60,12 +60,12 @@ pub fn change(
     count: &[u8; 256],
     ends: &[u16; 256],
     sizes: &[u8; 256],
-) -> sessions::Change
+) -> changes::Change
     requires { ⌜ Surveyed (now s) code f (now count) (now ends) (now sizes) × (any misfitting (attributes (now s)) ≡ false) ⌝ }
     ensures { λ r. ⌜ r ≡ changeOf code (now (s .entry)) ⌝ }
 {
     if code == 40 {
-        return sessions::Change::End;
+        return changes::Change::End;
     }
-    sessions::Change::Alter(alteration(s, code, f, count, ends, sizes))
+    changes::Change::Alter(alteration(s, code, f, count, ends, sizes))
 }

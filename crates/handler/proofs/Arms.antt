@@ -17,7 +17,7 @@ use Rattle.criteria.specs.declared.Criterion.{Criterion}
 use Rattle.slots.specs.Slot.{slotCount}
 use Rattle.criteria.specs.Matching.{matchesAt}
 use Rattle.criteria.specs.Marks.{marksAfter}
-use Rattle.sessions.specs.Change.{countMarked}
+use Rattle.changes.specs.Change.{countMarked}
 use Rattle.causes.specs.declared.Cause as C
 use Rattle.causes.specs.declared.Cause.the-variants.{SessionNotFound, NoCause}
 use Rattle.rules.specs.declared.Verdict as R

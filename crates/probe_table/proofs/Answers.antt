@@ -15,7 +15,7 @@ use Rattle.sessions.specs.declared.Inserted.{Inserted}
 use Rattle.sessions.specs.declared.Inserted.the-variants.{Slot, NotInserted}
 use Rattle.sessions.specs.declared.Removed.{Removed}
 use Rattle.sessions.specs.declared.Removed.the-variants.{Gone, NotRemoved}
-use Rattle.sessions.specs.Change.{marked, countMarked}
+use Rattle.changes.specs.Change.{marked, countMarked}
 use Rattle.sessions.specs.Session.{insertAnswer}
 use Rattle.sessions.proofs.Free.{free-most}
 use Rattle.sessions.proofs.Starts.{started}

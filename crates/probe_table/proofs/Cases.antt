@@ -9,11 +9,11 @@ use Rattle.criteria.specs.declared.Criteria.{Criteria}
 use Rattle.criteria.specs.declared.Criterion.{Criterion}
 use Rattle.criteria.specs.declared.Field.{Field}
 use Rattle.criteria.specs.declared.Field.the-variants.{UserName, NasPort, FramedAddress, CallingStation, SessionId}
-use Rattle.sessions.specs.declared.Change.the-variants.{End, Alter}
-use Rattle.sessions.specs.declared.Number.{Number}
-use Rattle.sessions.specs.declared.Number.the-variants.{Keep, Set}
-use Rattle.sessions.specs.declared.Text.{Text}
-use Rattle.sessions.specs.declared.Text.the-variants.{Same, Value}
+use Rattle.changes.specs.declared.Change.the-variants.{End, Alter}
+use Rattle.changes.specs.declared.Number.{Number}
+use Rattle.changes.specs.declared.Number.the-variants.{Keep, Set}
+use Rattle.changes.specs.declared.Text.{Text}
+use Rattle.changes.specs.declared.Text.the-variants.{Same, Value}
 use Rattle.probe_table.specs.Given.{fieldOf, criterionAt, criteriaOf, numberOf, textOf, changeOf}
 
 -- ---- the field of a number

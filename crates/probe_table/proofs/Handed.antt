@@ -12,8 +12,8 @@ use Rattle.slots.specs.Slot.{slotCount}
 use Rattle.criteria.specs.Matching.{listed, matchesAt}
 use Rattle.criteria.specs.Marks.{marksAfter}
 use Rattle.criteria.proofs.Marked.{length-marks}
-use Rattle.sessions.specs.declared.Change.{Change}
-use Rattle.sessions.specs.Change.{changeMarked, countMarked}
+use Rattle.changes.specs.declared.Change.{Change}
+use Rattle.changes.specs.Change.{changeMarked, countMarked}
 use Rattle.probe_table.specs.Answers.{truth}
 use Rattle.probe_table.proofs.Answers.{so, not-so}
 

@@ -68,23 +68,23 @@ pub fn criteria_of(s: &[u8]) -> criteria::Criteria
 }
 
 // A number that is set where the flag is not 0.
-fn number_of(set: u32, v: u32) -> sessions::Number
+fn number_of(set: u32, v: u32) -> changes::Number
     ensures { λ r. ⌜ r ≡ numberOf set v ⌝ }
 {
     if set == 0 {
-        return sessions::Number::Keep;
+        return changes::Number::Keep;
     }
-    sessions::Number::Set(v)
+    changes::Number::Set(v)
 }
 
 // A text that is set where the flag is not 0.
-fn text_of(set: u32, at: usize, size: usize) -> sessions::Text
+fn text_of(set: u32, at: usize, size: usize) -> changes::Text
     ensures { λ r. ⌜ r ≡ textOf set at size ⌝ }
 {
     if set == 0 {
-        return sessions::Text::Same;
+        return changes::Text::Same;
     }
-    sessions::Text::Value(at, size)
+    changes::Text::Value(at, size)
 }
 
 // The end of a session where the flag is not 0, else what is set.
@@ -97,16 +97,16 @@ pub fn change_of(
     filtered: u32,
     at: usize,
     size: usize,
-) -> sessions::Change
+) -> changes::Change
     ensures { λ r. ⌜ r ≡ changeOf end timed timeout idled idle filtered at size ⌝ }
 {
     if end != 0 {
-        return sessions::Change::End;
+        return changes::Change::End;
     }
-    let a = sessions::Alteration {
+    let a = changes::Alteration {
         timeout: number_of(timed, timeout),
         idle: number_of(idled, idle),
         filter: text_of(filtered, at, size),
     };
-    sessions::Change::Alter(a)
+    changes::Change::Alter(a)
 }

@@ -4,21 +4,21 @@ ghost use mathlib.Core.Bool.{cond};
 ghost use lib.ListN.{length};
 ghost use Rattle.records.specs.Record.{sessionOf};
 ghost use Rattle.slots.specs.Slot.{slotCount};
-ghost use Rattle.sessions.specs.Change.{changeMarked, countMarked};
+ghost use Rattle.changes.specs.Change.{changeMarked, countMarked};
 ghost use Rattle.sessions.specs.Session.{insertAnswer, insertTable, removeAnswer, removeTable};
 ghost use Rattle.probe_table.specs.Given.{changeOf};
 ghost use Rattle.probe_table.specs.Answers.{answer, marksRoom, insertNumber, insertSlot, removeNumber};
 use crate::given::change_of;
 
 // Changes every slot that is marked and live, and says how many there are.
-fn change_all(t: &mut [u8], p: &[u8], marks: &[u8], c: sessions::Change) -> u32
+fn change_all(t: &mut [u8], p: &[u8], marks: &[u8], c: changes::Change) -> u32
     requires { ⌜ length (now marks) ≡ 64 ⌝ }
     ensures { λ r. ⌜ r ≡ countMarked (now (marks .entry)) (slotCount (now (t .entry))) (now (t .entry)) ⌝ }
     ensures { λ _. ⌜ now (t .exit) ≡ changeMarked (now (p .entry)) c (now (marks .entry)) (slotCount (now (t .entry))) (now (t .entry)) ⌝ }
 {
     let mut m = [0u8; 64];
     octets::copy(&mut m, 0, marks);
-    sessions::change_marked(t, p, &m, c) as u32
+    changes::change_marked(t, p, &m, c) as u32
 }
 
 // Ends or alters every slot that is marked and live; refused where there are not 64 marks.

@@ -13,7 +13,7 @@ use lib.IntN.{ℤ}
 use lib.ListN.{set}
 use Rattle.slots.specs.Slot.{slotCount}
 use Rattle.criteria.specs.Marks.{marksAfter}
-use Rattle.sessions.specs.Change.{countMarked}
+use Rattle.changes.specs.Change.{countMarked}
 use Rattle.stamps.specs.Stamp.{stampOf}
 use Rattle.causes.specs.declared.Cause.the-variants.{SessionNotFound, NoCause}
 use Rattle.rules.specs.declared.Verdict.the-variants as J

@@ -10,7 +10,7 @@ use lib.Dec.{eqb, ltb}
 use lib.IntN.{ℤ}
 use lib.ListN.{length}
 use Rattle.slots.specs.Slot.{slotCount}
-use Rattle.sessions.specs.Change.{countMarked}
+use Rattle.changes.specs.Change.{countMarked}
 use Rattle.causes.specs.declared.Cause.the-variants.{SessionNotFound}
 use Rattle.packets.specs.Packet.{codeOf, areaOf}
 use Rattle.rules.specs.Settings.{Settings}
