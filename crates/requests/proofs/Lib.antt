@@ -1,4 +1,3 @@
 pub mod Areas
 pub mod Refusals
 pub mod Requesting
-pub mod Failures

@@ -1,9 +1,9 @@
--- `requests::check_reply` meets its contract: R2, then the first failure.
+-- `reply_check::check_reply` meets its contract: R2, then the first failure.
 -- Assumes nothing.
 use borrow.Author.Needs.{needs}
-use Rattle.requests.proofs.Failures.{not-checked, failed, passed}
-use Rattle.requests.proofs.check_reply.Statement.{statement}
-use Rattle.requests.proofs.check_reply.Tie as tie
+use Rattle.reply_check.proofs.Failures.{not-checked, failed, passed}
+use Rattle.reply_check.proofs.check_reply.Statement.{statement}
+use Rattle.reply_check.proofs.check_reply.Tie as tie
 
 returns : tie.Need-returns
 returns c = search (needs, not-checked)

@@ -1,9 +1,9 @@
--- `requests::reading::mismatch` meets its contract: each return is the first of V3 to V6 that applies.
+-- `reply_check::mismatch` meets its contract: each return is the first of V3 to V6 that applies.
 -- Assumes nothing.
 use borrow.Author.Needs.{needs}
-use Rattle.requests.proofs.Failures.{sixteen, code-fails, identifier-fails, authenticator-fails, mac-fails, none-fails}
-use Rattle.requests.proofs.reading.mismatch.Statement.{statement}
-use Rattle.requests.proofs.reading.mismatch.Tie as tie
+use Rattle.reply_check.proofs.Failures.{sixteen, code-fails, identifier-fails, authenticator-fails, mac-fails, none-fails}
+use Rattle.reply_check.proofs.mismatch.Statement.{statement}
+use Rattle.reply_check.proofs.mismatch.Tie as tie
 
 returns : tie.Need-returns
 returns c = search (needs, code-fails)

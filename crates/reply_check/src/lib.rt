@@ -1,4 +1,4 @@
-// The check of a reply: V1 to V6, each returned as soon as it is known.
+// The check of a reply against its request: V1 to V6, each returned as soon as it is known.
 ghost use mathlib.Core.Path.{_≡_};
 ghost use mathlib.Core.Bool.{false, not, _||_};
 ghost use Prim.Native.Nat.{_+_, _≤_};
@@ -9,7 +9,14 @@ ghost use Rattle.signing.specs.Signing.{authenticator};
 ghost use Rattle.survey.specs.Survey.{Surveyed};
 ghost use Rattle.packets.specs.Packet.{codeOf, areaOf};
 ghost use Rattle.packets.specs.Discards.{formOf, Sized};
-ghost use Rattle.requests.specs.ReplyCheck.{badReply, failureOf};
+ghost use Rattle.reply_check.specs.ReplyCheck.{badReply, failureOf, checkAnswer};
+
+// A right reply, document 01's V number, or its refusal number.
+pub enum Checked {
+    Right,
+    Failed(u8),
+    NotChecked(u8),
+}
 
 // V3: the answer's code is not the request's plus 1 or 2.
 fn wrong_code(code: u8, answer: u8) -> bool
@@ -71,7 +78,7 @@ fn mismatch(
 }
 
 // V1 to V6, the first failure; 0 where there is none. One pass over the reply's attributes serves V2 and V6.
-pub fn failure(secret: &[u8], request: &[u8], reply: &[u8]) -> u8
+fn failure(secret: &[u8], request: &[u8], reply: &[u8]) -> u8
     ensures { λ v. ⌜ v ≡ failureOf (now (secret .entry)) (now (request .entry)) (now (reply .entry)) ⌝ }
 {
     if packets::form(request) != 0 {
@@ -90,4 +97,18 @@ pub fn failure(secret: &[u8], request: &[u8], reply: &[u8]) -> u8
         return mismatch(secret, request, reply, n, f, &count, &ends, &sizes);
     }
     2
+}
+
+// Checks a reply against its request.
+pub fn check_reply(secret: &[u8], request: &[u8], reply: &[u8]) -> Checked
+    ensures { λ r. ⌜ r ≡ checkAnswer (now (secret .entry)) (now (request .entry)) (now (reply .entry)) ⌝ }
+{
+    if rules::limits::bad_secret(secret) {
+        return Checked::NotChecked(2);
+    }
+    let v = failure(secret, request, reply);
+    if v != 0 {
+        return Checked::Failed(v);
+    }
+    Checked::Right
 }

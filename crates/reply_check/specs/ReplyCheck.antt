@@ -10,8 +10,8 @@ use Rattle.packets.specs.Packet.{codeOf, identifierOf, lengthOf, authOf}
 use Rattle.rules.specs.Settings.{badSecret}
 use Rattle.packets.specs.Discards.{badLength, badAttributes, formOf}
 use Rattle.rules.specs.Discards.{badMac}
-use Rattle.requests.specs.declared.Checked as D
-use Rattle.requests.specs.declared.Checked.the-variants.{Right, Failed, NotChecked}
+use Rattle.reply_check.specs.declared.Checked as D
+use Rattle.reply_check.specs.declared.Checked.the-variants.{Right, Failed, NotChecked}
 
 -- V1: request fails D1 to D3
 unfoldable pub badRequest : List ℕ → Bool

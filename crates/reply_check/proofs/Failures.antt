@@ -19,8 +19,8 @@ use Rattle.packets.specs.Discards.{badLength, badAttributes, formOf, Sized}
 use Rattle.rules.specs.Discards.{badMac}
 use Rattle.packets.proofs.Forms.{form-good, good-head}
 use Rattle.packets.proofs.Areas.{area-of}
-use Rattle.requests.specs.declared.Checked.the-variants.{Right, Failed, NotChecked}
-use Rattle.requests.specs.ReplyCheck.{badRequest, badReply, wrongCode, wrongIdentifier, wrongAuthenticator, failureOf, checkAnswer}
+use Rattle.reply_check.specs.declared.Checked.the-variants.{Right, Failed, NotChecked}
+use Rattle.reply_check.specs.ReplyCheck.{badRequest, badReply, wrongCode, wrongIdentifier, wrongAuthenticator, failureOf, checkAnswer}
 
 -- V3 by its two tests
 pub code-first : (code answer : ℕ) → answer ≡ code + 1 → false ≡ not (eqb answer (code + 1) || eqb answer (code + 2))

@@ -1,4 +1,4 @@
--- `requests::reading::failure` meets its contract: V1 and V2 by what stands, then the rest.
+-- `reply_check::failure` meets its contract: V1 and V2 by what stands, then the rest.
 -- Assumes nothing.
 use mathlib.Core.Path.{refl}
 use borrow.Author.Needs.{needs}
@@ -6,9 +6,9 @@ use Rattle.survey.specs.Survey.{zeros}
 use Rattle.packets.proofs.Forms.{judged-good}
 use Rattle.packets.proofs.Areas.{area-of, area-short}
 use Rattle.rules.proofs.Verdicts.{surveyed-of}
-use Rattle.requests.proofs.Failures.{first-fails, form-none, form-long, length-fails, attributes-fail, reply-good}
-use Rattle.requests.proofs.reading.failure.Statement.{statement}
-use Rattle.requests.proofs.reading.failure.Tie as tie
+use Rattle.reply_check.proofs.Failures.{first-fails, form-none, form-long, length-fails, attributes-fail, reply-good}
+use Rattle.reply_check.proofs.failure.Statement.{statement}
+use Rattle.reply_check.proofs.failure.Tie as tie
 
 returns : tie.Need-returns
 returns c = search (needs, first-fails)

@@ -1,9 +1,9 @@
--- `requests::reading::wrong_code` meets its contract: by its two tests.
+-- `reply_check::wrong_code` meets its contract: by its two tests.
 -- Assumes nothing.
 use borrow.Author.Needs.{needs}
-use Rattle.requests.proofs.Failures.{code-first, code-second}
-use Rattle.requests.proofs.reading.wrong_code.Statement.{statement}
-use Rattle.requests.proofs.reading.wrong_code.Tie as tie
+use Rattle.reply_check.proofs.Failures.{code-first, code-second}
+use Rattle.reply_check.proofs.wrong_code.Statement.{statement}
+use Rattle.reply_check.proofs.wrong_code.Tie as tie
 
 returns : tie.Need-returns
 returns c = search (needs, code-first)

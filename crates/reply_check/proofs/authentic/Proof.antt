@@ -1,10 +1,10 @@
--- `requests::reading::authentic` meets its contract: the comparison takes all of the authenticator.
+-- `reply_check::authentic` meets its contract: the comparison takes all of the authenticator.
 -- Assumes nothing.
 use borrow.Author.Needs.{needs}
 use Rattle.signing.proofs.Messages.{length-authenticator}
 use Rattle.signing.proofs.Pieces.{compared}
-use Rattle.requests.proofs.reading.authentic.Statement.{statement}
-use Rattle.requests.proofs.reading.authentic.Tie as tie
+use Rattle.reply_check.proofs.authentic.Statement.{statement}
+use Rattle.reply_check.proofs.authentic.Tie as tie
 
 returns : tie.Need-returns
 returns c = search (needs, compared, length-authenticator)
