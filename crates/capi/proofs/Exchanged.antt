@@ -9,9 +9,9 @@ use borrow.Author.Tests.{eqb-true}
 use lib.Dec.{eqb}
 use Rattle.requests.specs.declared.Written as W
 use Rattle.requests.specs.declared.Written.the-variants.{Done, NotWritten}
-use Rattle.requests.specs.declared.Checked as C
+use Rattle.reply_check.specs.declared.Checked as C
 use Rattle.requests.specs.Writer.{Draft, writeRefusal, requestLength, writeAnswer}
-use Rattle.requests.specs.ReplyCheck.{checkAnswer}
+use Rattle.reply_check.specs.ReplyCheck.{checkAnswer}
 use Rattle.exchanges.proofs.Requests.{written-short}
 use Rattle.reports.specs.Numbers.{writtenNumber, writtenLength, checkedNumber}
 

@@ -7,7 +7,7 @@ ghost use lib.Dec.{eqb};
 ghost use Rattle.rules.specs.Settings.{settings};
 ghost use Rattle.handler.specs.Handle.{handleAnswer, handleTable, handleReply};
 ghost use Rattle.requests.specs.Writer.{draft, writeAnswer, writeOutput};
-ghost use Rattle.requests.specs.ReplyCheck.{checkAnswer};
+ghost use Rattle.reply_check.specs.ReplyCheck.{checkAnswer};
 ghost use Rattle.reports.specs.Numbers.{numberOf, changedBy, lengthBy, skewBy, stampedBy, writtenNumber, writtenLength, checkedNumber};
 
 // Handles a request.
@@ -62,5 +62,5 @@ pub extern "C" fn fbk_write(
 pub extern "C" fn fbk_check_reply(secret: &[u8], request: &[u8], reply: &[u8]) -> u32
     ensures { λ r. ⌜ r ≡ checkedNumber (checkAnswer (now (secret .entry)) (now (request .entry)) (now (reply .entry))) ⌝ }
 {
-    reports::exchange::checked_number(requests::check_reply(secret, request, reply))
+    reports::exchange::checked_number(reply_check::check_reply(secret, request, reply))
 }

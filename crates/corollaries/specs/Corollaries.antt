@@ -14,7 +14,7 @@ use Rattle.reply.specs.Reply.{replyOf}
 use Rattle.answers.specs.declared.Answer.{Answer}
 use Rattle.answers.specs.declared.Answer.the-variants as A
 use Rattle.requests.specs.Writer.{Draft, writeRefusal, requestOf}
-use Rattle.requests.specs.ReplyCheck.{failureOf}
+use Rattle.reply_check.specs.ReplyCheck.{failureOf}
 use Rattle.scheduler.specs.declared.Scheduler as D
 use Rattle.scheduler.specs.declared.Called as C
 use Rattle.scheduler.specs.declared.Outcome.the-variants.{Discarded, Done}

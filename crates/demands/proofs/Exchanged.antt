@@ -13,10 +13,10 @@ use Rattle.survey.specs.Types.{member}
 use Rattle.rules.specs.Settings.{badSecret}
 use Rattle.requests.specs.declared.Written as W
 use Rattle.requests.specs.declared.Written.the-variants.{Done, NotWritten}
-use Rattle.requests.specs.declared.Checked as C
-use Rattle.requests.specs.declared.Checked.the-variants.{Right, Failed, NotChecked}
+use Rattle.reply_check.specs.declared.Checked as C
+use Rattle.reply_check.specs.declared.Checked.the-variants.{Right, Failed, NotChecked}
 use Rattle.requests.specs.Writer.{Draft, badGiven, writeRefusal, requestLength, requestOf, writeAnswer, writeOutput}
-use Rattle.requests.specs.ReplyCheck.{failureOf, checkAnswer}
+use Rattle.reply_check.specs.ReplyCheck.{failureOf, checkAnswer}
 use Rattle.demands.specs.Demand1.{Exchanging}
 
 -- what holds of the number of a refusal; of any other answer nothing

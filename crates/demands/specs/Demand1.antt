@@ -23,9 +23,9 @@ use Rattle.answers.specs.declared.Answer.the-variants as A
 use Rattle.handler.specs.Refusals.{refusalOf}
 use Rattle.handler.specs.Handle.{handleAnswer, handleTable, handleReply}
 use Rattle.requests.specs.declared.Written.the-variants.{NotWritten}
-use Rattle.requests.specs.declared.Checked.the-variants.{NotChecked}
+use Rattle.reply_check.specs.declared.Checked.the-variants.{NotChecked}
 use Rattle.requests.specs.Writer.{Draft, writeRefusal, writeAnswer, writeOutput}
-use Rattle.requests.specs.ReplyCheck.{checkAnswer}
+use Rattle.reply_check.specs.ReplyCheck.{checkAnswer}
 use Rattle.jobs.specs.declared.Ending.the-variants as K
 use Rattle.jobs.specs.Job.{freeJob}
 use Rattle.scheduler.specs.declared.Scheduler as D

@@ -30,7 +30,7 @@ use Rattle.answers.specs.declared.Answer.the-variants.{Refused, Nak, Ack}
 use Rattle.handler.specs.Refusals.{refusalOf}
 use Rattle.handler.specs.Handle.{answerOf, handleAnswer, handleTable, handleReply}
 use Rattle.requests.specs.Writer.{Draft, writeRefusal, requestOf}
-use Rattle.requests.specs.ReplyCheck.{failureOf}
+use Rattle.reply_check.specs.ReplyCheck.{failureOf}
 use Rattle.demands.specs.Answers.{silent, replySize}
 
 -- a list of bytes

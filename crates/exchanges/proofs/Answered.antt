@@ -19,7 +19,7 @@ use Rattle.reply.proofs.Lengths.{length-auth}
 use Rattle.replies.proofs.Back.{maced, reply-is, length-is, reply-code, reply-identifier}
 use Rattle.replies.proofs.Tilings.{body-plain}
 use Rattle.replies.proofs.Passing.{packet-sized, packet-tiled, packet-authentic, packet-mac}
-use Rattle.requests.specs.ReplyCheck.{badRequest, badReply, wrongCode, wrongIdentifier, wrongAuthenticator, failureOf}
+use Rattle.reply_check.specs.ReplyCheck.{badRequest, badReply, wrongCode, wrongIdentifier, wrongAuthenticator, failureOf}
 
 one-or-two : (k : ℕ) (b : Bool) → (eqb (k + cond b 2 1) (k + 1) || eqb (k + cond b 2 1) (k + 2)) ≡ true
 one-or-two k true = rw (ne-eqb (k + 2) (k + 1) (λ e. omega arith), eq-eqb (k + 2) (k + 2) refl)

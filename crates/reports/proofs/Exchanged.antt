@@ -4,8 +4,8 @@ use mathlib.Core.Path.{_≡_, _∙_}
 use Prim.Native.Nat.{ℕ, _+_, _<_}
 use Rattle.requests.specs.declared.Written as W
 use Rattle.requests.specs.declared.Written.the-variants.{Done, NotWritten}
-use Rattle.requests.specs.declared.Checked as C
-use Rattle.requests.specs.declared.Checked.the-variants.{Right, Failed, NotChecked}
+use Rattle.reply_check.specs.declared.Checked as C
+use Rattle.reply_check.specs.declared.Checked.the-variants.{Right, Failed, NotChecked}
 use Rattle.reports.specs.Numbers.{writtenNumber, writtenLength, checkedNumber}
 
 module _ (w : W.Written) (n : ℕ) (e : w ≡ Done n) where

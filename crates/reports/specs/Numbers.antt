@@ -8,8 +8,8 @@ use Rattle.answers.specs.declared.Answer as D
 use Rattle.answers.specs.declared.Answer.the-variants.{Refused, Discarded, Stale, Nak, Ack}
 use Rattle.requests.specs.declared.Written as W
 use Rattle.requests.specs.declared.Written.the-variants.{Done, NotWritten}
-use Rattle.requests.specs.declared.Checked as C
-use Rattle.requests.specs.declared.Checked.the-variants.{Right, Failed, NotChecked}
+use Rattle.reply_check.specs.declared.Checked as C
+use Rattle.reply_check.specs.declared.Checked.the-variants.{Right, Failed, NotChecked}
 
 unfoldable pub numberOf : D.Answer → ℕ
 numberOf (Refused n) = n

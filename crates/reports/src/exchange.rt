@@ -2,7 +2,7 @@
 ghost use mathlib.Core.Path.{_≡_};
 ghost use Prim.Native.Nat.{_<_};
 ghost use Rattle.reports.specs.Numbers.{writtenNumber, writtenLength, checkedNumber};
-use requests::Checked;
+use reply_check::Checked;
 use requests::Written;
 
 // The answer of the writer.

@@ -42,14 +42,14 @@ pub fn write(name: &[u8], code: u32, given: &[u8], add: bool) {
 
 pub fn check(name: &[u8], request: &[u8], reply: &[u8]) {
     word(name);
-    match requests::check_reply(b"xyzzy", request, reply) {
-        requests::Checked::Right => {
+    match reply_check::check_reply(b"xyzzy", request, reply) {
+        reply_check::Checked::Right => {
             answer(0);
         }
-        requests::Checked::Failed(v) => {
+        reply_check::Checked::Failed(v) => {
             answer(200 + wide(v));
         }
-        requests::Checked::NotChecked(r) => {
+        reply_check::Checked::NotChecked(r) => {
             answer(wide(r));
         }
     }
