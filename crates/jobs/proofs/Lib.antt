@@ -1,6 +1,4 @@
 pub mod Blocks
 pub mod Examined
-pub mod Committing
+pub mod Committed
 pub mod Checked
-pub mod Slotted
-pub mod Steps

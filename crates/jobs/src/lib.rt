@@ -1,15 +1,12 @@
 // A request in work, and its moves (document 01's job of the desk).
 mod checking; // checking.rt: Check
+mod committing; // committing.rt: Commit
 mod hashing; // hashing.rt: Hash
 mod matching; // matching.rt: Match
-mod placing; // placing.rt: Commit, and which of Match and Commit
 
 ghost use mathlib.Core.Path.{_≡_};
-ghost use Prim.Native.Nat.{_≤_};
-ghost use lib.ListN.{length};
-ghost use Rattle.rules.specs.Settings.{settings};
-ghost use Rattle.jobs.specs.Job.{freeJob, firstJob, atFirstSlot, isOpen, restarted, JobOurs};
-ghost use Rattle.jobs.specs.Moves.{going, done, moved, movedTable, replyAfter};
+ghost use Rattle.jobs.specs.Job.{freeJob, firstJob, atFirstSlot, isOpen, restarted};
+ghost use Rattle.jobs.specs.Moves.{going, done};
 
 pub enum Stage {
     Free,
@@ -66,7 +63,7 @@ pub fn first(n: usize, clock: u32) -> Job
 }
 
 // It goes on.
-fn going(job: Job) -> Moved
+pub fn going(job: Job) -> Moved
     ensures { λ r. ⌜ r ≡ going job ⌝ }
 {
     Moved {
@@ -76,7 +73,7 @@ fn going(job: Job) -> Moved
 }
 
 // It is finished, and free again.
-fn done(answer: answers::Answer) -> Moved
+pub fn done(answer: answers::Answer) -> Moved
     ensures { λ r. ⌜ r ≡ done answer ⌝ }
 {
     Moved {
@@ -122,31 +119,6 @@ impl Job {
             Stage::Hash(_) => self,
             Stage::Check => self,
             Stage::Match(_) => self.at_first_slot(),
-        }
-    }
-
-    // One step, by the job's part q of the store and the table t.
-    pub fn step(
-        self,
-        q: &[u8],
-        secret: &[u8],
-        address: u32,
-        name: &[u8],
-        t: &mut [u8],
-        reply: &mut [u8],
-    ) -> Moved
-        requires { ⌜ JobOurs (length (now secret)) self × (length (now secret) ≤ 64) × (length (now q) ≡ 4096) × (4096 ≤ length (now reply)) ⌝ }
-        ensures { λ r. ⌜ r ≡ moved (settings (now (secret .entry)) address (now (name .entry))) self (now (q .entry)) (now (t .entry)) ⌝ }
-        ensures { λ r. ⌜ now (t .exit) ≡ movedTable (settings (now (secret .entry)) address (now (name .entry))) self (now (q .entry)) (now (t .entry)) ⌝ }
-        ensures { λ r. ⌜ now (reply .exit) ≡ replyAfter (now (secret .entry)) (now (q .entry)) (now (reply .entry)) (r .ending) ⌝ }
-        ensures { λ r. ⌜ JobOurs (length (now (secret .entry))) (r .job) ⌝ }
-    {
-        let stage = self.stage;
-        match stage {
-            Stage::Free => going(self),
-            Stage::Hash(k) => going(self.hash(k, q, secret)),
-            Stage::Check => self.check(q, secret, address, name, reply),
-            Stage::Match(k) => placing::at_slot(self, k, q, secret, address, name, t, reply),
         }
     }
 }

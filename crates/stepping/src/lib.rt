@@ -83,7 +83,8 @@ fn worked(s: Scheduler, j: usize, q: &[u8], t: &mut [u8], reply: &mut [u8]) -> j
     let secret_size = s.secret_size;
     let name = s.name;
     let name_size = s.name_size;
-    job.step(
+    moving::step(
+        job,
         q,
         &secret[..secret_size],
         s.address,

@@ -1,7 +1,7 @@
 -- `Job::commit` meets its contract: the last move of the request as the store shows it now.
 -- Assumes nothing.
 use borrow.Author.Needs.{needs}
-use Rattle.jobs.proofs.Committing.{stands-short, stands-sized, stands-form, stands-surveyed, stands-fits, commit-move, commit-reply}
+use Rattle.jobs.proofs.Committed.{stands-short, stands-sized, stands-form, stands-surveyed, stands-fits, commit-move, commit-reply}
 use Rattle.jobs.proofs.Job.commit.Statement.{statement}
 use Rattle.jobs.proofs.Job.commit.Tie as tie
 

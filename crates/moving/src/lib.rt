@@ -1,4 +1,4 @@
-// Match or Commit: the store is read again, then the job's place decides.
+// One step of a job: which of its moves is next.
 ghost use mathlib.Core.Path.{_≡_};
 ghost use mathlib.Core.Bool.{cond};
 ghost use Prim.Native.Nat.{_≤_};
@@ -6,38 +6,14 @@ ghost use lib.Dec.{ltb};
 ghost use lib.ListN.{length};
 ghost use Rattle.slots.specs.Slot.{slotCount};
 ghost use Rattle.rules.specs.Settings.{settings};
-ghost use Rattle.answers.specs.Commit.{commitTable};
-ghost use Rattle.jobs.specs.Moves.{going, matchJob, commitMove, slotMove, slotTable, replyAfter};
 ghost use Rattle.reread.specs.Again.{Stands};
-use crate::Job;
-use crate::Moved;
+ghost use Rattle.answers.specs.Commit.{commitTable};
+ghost use Rattle.jobs.specs.Job.{JobOurs};
+ghost use Rattle.jobs.specs.Moves.{going, matchJob, commitMove, slotMove, slotTable, moved, movedTable, replyAfter};
+use jobs::Job;
+use jobs::Moved;
+use jobs::Stage;
 use reread::Again;
-
-impl Job {
-    // Commit: 503, or changes and ACK, by the marks as held and the stamp of the store read again.
-    pub fn commit(
-        self,
-        stamp: u32,
-        q: &[u8],
-        secret: &[u8],
-        t: &mut [u8],
-        reply: &mut [u8],
-        f: survey::Flags,
-        count: &[u8; 256],
-        ends: &[u16; 256],
-        sizes: &[u8; 256],
-    ) -> Moved
-        requires { ⌜ Stands (self .length) (now q) stamp f (now count) (now ends) (now sizes) × (4096 ≤ length (now reply)) ⌝ }
-        ensures { λ r. ⌜ r ≡ commitMove self (now (q .entry)) (now (t .entry)) ⌝ }
-        ensures { λ r. ⌜ now (t .exit) ≡ commitTable (now (q .entry)) (self .marks) (now (t .entry)) ⌝ }
-        ensures { λ r. ⌜ now (reply .exit) ≡ replyAfter (now (secret .entry)) (now (q .entry)) (now (reply .entry)) (r .ending) ⌝ }
-    {
-        let marks = self.marks;
-        let n = self.length;
-        let skew = stamps::skew(stamp, self.clock);
-        crate::done(answers::commit(t, &marks, reply, q, n, secret, skew, f, count, ends, sizes))
-    }
-}
 
 // Where the place is a slot of the table it is examined; else the job awaits Commit.
 fn moved(
@@ -59,13 +35,13 @@ fn moved(
     ensures { λ r. ⌜ now (reply .exit) ≡ replyAfter (now (secret .entry)) (now (q .entry)) (now (reply .entry)) (r .ending) ⌝ }
 {
     if k < slots::slot_count(t) {
-        return crate::going(j.match_slot(k, q, t, f, count, ends, sizes));
+        return jobs::going(j.match_slot(k, q, t, f, count, ends, sizes));
     }
     j.commit(stamp, q, secret, t, reply, f, count, ends, sizes)
 }
 
 // On the store read again: the job is discarded as D1, or moved.
-pub fn at_slot(
+fn at_slot(
     j: Job,
     k: usize,
     q: &[u8],
@@ -85,7 +61,32 @@ pub fn at_slot(
     let mut sizes = [0u8; 256];
     let n = j.length;
     match reread::passed(n, q, address, name, &mut count, &mut ends, &mut sizes) {
-        Again::Gone => crate::done(answers::Answer::Discarded(1)),
+        Again::Gone => jobs::done(answers::Answer::Discarded(1)),
         Again::Held(f, stamp) => moved(j, k, stamp, q, secret, t, reply, f, &count, &ends, &sizes),
+    }
+}
+
+// One step, by the job's part q of the store and the table t.
+pub fn step(
+    j: Job,
+    q: &[u8],
+    secret: &[u8],
+    address: u32,
+    name: &[u8],
+    t: &mut [u8],
+    reply: &mut [u8],
+) -> Moved
+    requires { ⌜ JobOurs (length (now secret)) j × (length (now secret) ≤ 64) × (length (now q) ≡ 4096) × (4096 ≤ length (now reply)) ⌝ }
+    ensures { λ r. ⌜ r ≡ moved (settings (now (secret .entry)) address (now (name .entry))) j (now (q .entry)) (now (t .entry)) ⌝ }
+    ensures { λ r. ⌜ now (t .exit) ≡ movedTable (settings (now (secret .entry)) address (now (name .entry))) j (now (q .entry)) (now (t .entry)) ⌝ }
+    ensures { λ r. ⌜ now (reply .exit) ≡ replyAfter (now (secret .entry)) (now (q .entry)) (now (reply .entry)) (r .ending) ⌝ }
+    ensures { λ r. ⌜ JobOurs (length (now (secret .entry))) (r .job) ⌝ }
+{
+    let stage = j.stage;
+    match stage {
+        Stage::Free => jobs::going(j),
+        Stage::Hash(k) => jobs::going(j.hash(k, q, secret)),
+        Stage::Check => j.check(q, secret, address, name, reply),
+        Stage::Match(k) => at_slot(j, k, q, secret, address, name, t, reply),
     }
 }

@@ -1,11 +1,11 @@
--- `Job::step` meets its contract: each stage is its move.
+-- `moving::step` meets its contract: each stage is its move.
 -- Assumes nothing.
 use borrow.Author.Needs.{needs}
 use Rattle.jobs.proofs.Checked.{going-reply}
-use Rattle.jobs.proofs.Steps.{step-free, step-hash, step-check, step-slot, table-free, table-hash, table-check, table-slot}
-use Rattle.jobs.proofs.Steps.{ours-low, ours-high, ours-given, ours-block, ours-free, ours-hash, ours-check, ours-slot}
-use Rattle.jobs.proofs.Job.step.Statement.{statement}
-use Rattle.jobs.proofs.Job.step.Tie as tie
+use Rattle.moving.proofs.Steps.{step-free, step-hash, step-check, step-slot, table-free, table-hash, table-check, table-slot}
+use Rattle.moving.proofs.Steps.{ours-low, ours-high, ours-given, ours-block, ours-free, ours-hash, ours-check, ours-slot}
+use Rattle.moving.proofs.step.Statement.{statement}
+use Rattle.moving.proofs.step.Tie as tie
 
 hash-requires : tie.Need-hash-requires
 hash-requires c κs = (search (needs, ours-low), search (needs, ours-given), search (needs, ours-high), search needs, search (needs, ours-block))

@@ -1,12 +1,12 @@
--- `jobs::placing::at_slot` meets its contract: what the re-reading tells decides.
+-- `moving::at_slot` meets its contract: what the re-reading tells decides.
 -- Assumes nothing.
 use borrow.Author.Needs.{needs}
 use mathlib.Core.Path.{refl}
 use Rattle.survey.specs.Survey.{zeros}
 use Rattle.jobs.proofs.Checked.{discarded-reply}
-use Rattle.jobs.proofs.Slotted.{gone-move, gone-table, held-stands, held-move, held-table}
-use Rattle.jobs.proofs.placing.at_slot.Statement.{statement}
-use Rattle.jobs.proofs.placing.at_slot.Tie as tie
+use Rattle.moving.proofs.Slotted.{gone-move, gone-table, held-stands, held-move, held-table}
+use Rattle.moving.proofs.at_slot.Statement.{statement}
+use Rattle.moving.proofs.at_slot.Tie as tie
 
 passed-requires : tie.Need-passed-requires
 unfolding zeros

@@ -1,11 +1,11 @@
--- `jobs::placing::moved` meets its contract: Match below the number of slots, else Commit.
+-- `moving::moved` meets its contract: Match below the number of slots, else Commit.
 -- Assumes nothing.
 use borrow.Author.Needs.{needs}
 use Rattle.jobs.proofs.Checked.{going-reply}
-use Rattle.jobs.proofs.Committing.{stands-sized, stands-surveyed, stands-once}
-use Rattle.jobs.proofs.Slotted.{slot-here, match-here, match-table, commit-here, commit-table}
-use Rattle.jobs.proofs.placing.moved.Statement.{statement}
-use Rattle.jobs.proofs.placing.moved.Tie as tie
+use Rattle.jobs.proofs.Committed.{stands-sized, stands-surveyed, stands-once}
+use Rattle.moving.proofs.Slotted.{slot-here, match-here, match-table, commit-here, commit-table}
+use Rattle.moving.proofs.moved.Statement.{statement}
+use Rattle.moving.proofs.moved.Tie as tie
 
 match-slot-requires : tie.Need-match-slot-requires
 match-slot-requires c κs = ((search (needs, slot-here), search (needs, stands-sized), search (needs, stands-once)), search (needs, stands-surveyed))
