@@ -40,7 +40,7 @@ fn matched(
 {
     let s = octets::slice(p, 20, n - 20);
     let c = effects::criteria(count, ends, sizes);
-    let marks = criteria::mark_all(t, s, c);
+    let marks = marking::mark_all(t, s, c);
     answers::commit(t, &marks, reply, p, n, secret, skew, f, count, ends, sizes)
 }
 

@@ -29,7 +29,7 @@ fn matches(
 {
     let s = octets::slice(q, 20, n - 20);
     let c = effects::criteria(count, ends, sizes);
-    criteria::match_slot(t, k, s, c)
+    marking::match_slot(t, k, s, c)
 }
 
 impl Job {

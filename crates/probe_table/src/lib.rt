@@ -34,7 +34,7 @@ pub extern "C" fn probe_table_live(t: &[u8], k: usize) -> u32
 pub extern "C" fn probe_table_match(t: &[u8], k: usize, p: &[u8], criteria: &[u8]) -> u32
     ensures { λ r. ⌜ r ≡ truth (matchesAt (now (p .entry)) (listed (criteriaOf (now (criteria .entry)))) (now (t .entry)) k) ⌝ }
 {
-    if criteria::match_slot(t, k, p, given::criteria_of(criteria)) {
+    if marking::match_slot(t, k, p, given::criteria_of(criteria)) {
         return 1;
     }
     0
@@ -49,7 +49,7 @@ pub extern "C" fn probe_table_marks(t: &[u8], p: &[u8], criteria: &[u8], marks: 
     if marks.len() != 64 {
         return 1;
     }
-    let m = criteria::mark_all(t, p, given::criteria_of(criteria));
+    let m = marking::mark_all(t, p, given::criteria_of(criteria));
     octets::copy(marks, 0, &m);
     0
 }

@@ -8,12 +8,12 @@ use borrow.Author.Tests.{not-true, not-false}
 use lib.Dec.{eqb}
 use lib.ListN.{length, getD, set, drop}
 use Rattle.slots.specs.Slot.{slotCount, live, slot}
 use Rattle.criteria.specs.declared.Criteria.{Criteria}
 use Rattle.criteria.specs.declared.Criterion.{Criterion}
 use Rattle.criteria.specs.Matching.{all, listed, meets, matchesAt}
 use Rattle.criteria.specs.Marks.{marksAfter}
 use Rattle.criteria.proofs.Walk.{walk-free, walk-fails, walk-ends}
-use Rattle.criteria.proofs.Marks.{marks-skip, marks-more, marks-all}
+use Rattle.marking.proofs.Marks.{marks-skip, marks-more, marks-all}
 
 -- m is the marks before the turn, m′ after it
 module _ (m m′ p t : List ℕ) (c : Criteria) (k : ℕ) (e : m ≡ marksAfter (matchesAt p (listed c) t) k) where

@@ -1,4 +1,4 @@
--- `criteria::mark_all` meets its contract: the marks are those of the slots passed, and the criteria that are left decide the slot at hand.
+-- `marking::mark_all` meets its contract: the marks are those of the slots passed, and the criteria that are left decide the slot at hand.
 -- Assumes nothing.
 use Prim.Native.Nat.{_≤_, _-_}
 use mathlib.Core.Path.{_≡_}
@@ -7,14 +7,14 @@ use mathlib.Core.Logic.{⊎-elim}
 use lib.ListN.{length, drop}
 use Rattle.slots.specs.Slot.{live}
 use Rattle.slots.proofs.Count.{Counted, counted-is}
 use Rattle.criteria.specs.Matching.{all, listed, meets, matchesAt}
 use Rattle.criteria.specs.Marks.{marksAfter}
 use Rattle.criteria.proofs.Walk.{walk-starts, walk-next, inside-at}
-use Rattle.criteria.proofs.Marks.{marks-start}
-use Rattle.criteria.proofs.Turns.{turn-free, turn-fails, turn-dead, turn-meets, turns-end}
+use Rattle.marking.proofs.Marks.{marks-start}
+use Rattle.marking.proofs.Turns.{turn-free, turn-fails, turn-dead, turn-meets, turns-end}
 use borrow.Author.Needs.{needs}
-use Rattle.criteria.proofs.mark_all.Statement.{statement}
-use Rattle.criteria.proofs.mark_all.Tie as tie
+use Rattle.marking.proofs.mark_all.Statement.{statement}
+use Rattle.marking.proofs.mark_all.Tie as tie
 
 abbrev Inv-loop2 : tie.InvT-loop2
 Inv-loop2 t p c slots n known marks k s i₀ i = (i ≤ n) × (matchesAt p (listed c) t k ≡ live s && all (meets p s) (drop i (listed c)))

@@ -1,15 +1,15 @@
--- `criteria::match_slot` meets its contract: the criteria that are left decide, and the lengths at the end.
+-- `marking::match_slot` meets its contract: the criteria that are left decide, and the lengths at the end.
 -- Assumes nothing.
 use Prim.Native.Nat.{_≤_, _-_}
 use mathlib.Core.Path.{_≡_}
 use mathlib.Core.Bool.{_&&_}
 use lib.ListN.{length, drop}
 use Rattle.slots.specs.Slot.{live}
 use Rattle.criteria.specs.Matching.{all, listed, meets, matchesAt}
 use Rattle.criteria.proofs.Walk.{walk-free, walk-starts, walk-fails, walk-next, walk-ends}
 use borrow.Author.Needs.{needs}
-use Rattle.criteria.proofs.match_slot.Statement.{statement}
-use Rattle.criteria.proofs.match_slot.Tie as tie
+use Rattle.marking.proofs.match_slot.Statement.{statement}
+use Rattle.marking.proofs.match_slot.Tie as tie
 
 abbrev Inv-loop : tie.InvT-loop
 Inv-loop t k p c s n i₀ i = (i ≤ n) × (n ≡ length (listed c)) × (n ≤ 5) × (matchesAt p (listed c) t k ≡ live s && all (meets p s) (drop i (listed c)))
