@@ -20,6 +20,7 @@ pub mod Proved
 pub mod Lone
 pub mod Sparing
 pub mod Writing
+pub mod Others
 pub mod Copying
 pub mod Keeping
 pub mod Owning
