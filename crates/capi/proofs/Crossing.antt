@@ -12,8 +12,8 @@ use Rattle.scheduler.specs.Making.{makeAnswer}
 use Rattle.scheduler.specs.Calls.{openCalled, openStore, stepCalled, stepTable, stepReply, dropCalled, startCalled, endCalled}
 use Rattle.layout.specs.declared.CScheduler as L
 use Rattle.layout.specs.Layout.{schedulerIn}
-use Rattle.reports.specs.declared.outcome.CCalled as C
-use Rattle.reports.specs.Called.{calledOut, madeOut}
+use Rattle.outcomes.specs.declared.CCalled as C
+use Rattle.outcomes.specs.Called.{calledOut, madeOut}
 
 pub make-told : (g : Settings) (m : M.Made) (r : C.CCalled) → m ≡ makeAnswer g → r ≡ madeOut m → r ≡ madeOut (makeAnswer g)
 make-told g m r e h = h ∙ rw e

@@ -6,16 +6,16 @@ ghost use Rattle.sessions.specs.Session.{insertTable, removeTable};
 ghost use Rattle.scheduler.specs.Making.{makeAnswer};
 ghost use Rattle.scheduler.specs.Calls.{openCalled, openStore, stepCalled, stepTable, stepReply, dropCalled, startCalled, endCalled};
 ghost use Rattle.layout.specs.Layout.{schedulerIn};
-ghost use Rattle.reports.specs.Called.{calledOut, madeOut};
+ghost use Rattle.outcomes.specs.Called.{calledOut, madeOut};
 use layout::CScheduler;
-use reports::outcome::CCalled;
+use outcomes::CCalled;
 
 // Makes a scheduler.
 #[no_mangle]
 pub extern "C" fn fbk_make_by_value(secret: &[u8], address: u32, name: &[u8]) -> CCalled
     ensures { λ r. ⌜ r ≡ madeOut (makeAnswer (settings (now (secret .entry)) address (now (name .entry)))) ⌝ }
 {
-    reports::outcome::made_out(scheduler::make(secret, address, name))
+    outcomes::made_out(scheduler::make(secret, address, name))
 }
 
 // Opens a request.
@@ -30,7 +30,7 @@ pub extern "C" fn fbk_open_by_value(
     ensures { λ _. ⌜ now (store .exit) ≡ openStore (schedulerIn c) (now (packet .entry)) (now (store .entry)) ⌝ }
 {
     let s = layout::scheduler_in(c);
-    reports::outcome::called_out(opening::open(s, packet, clock, store))
+    outcomes::called_out(opening::open(s, packet, clock, store))
 }
 
 // One step of a job.
@@ -47,7 +47,7 @@ pub extern "C" fn fbk_step_by_value(
     ensures { λ _. ⌜ now (reply .exit) ≡ stepReply (schedulerIn c) job (now (table .entry)) (now (reply .entry)) (now (store .entry)) ⌝ }
 {
     let s = layout::scheduler_in(c);
-    reports::outcome::called_out(stepping::step(s, job as usize, table, reply, store))
+    outcomes::called_out(stepping::step(s, job as usize, table, reply, store))
 }
 
 // Drops a job.
@@ -56,7 +56,7 @@ pub extern "C" fn fbk_drop_by_value(c: CScheduler, job: u32) -> CCalled
     ensures { λ r. ⌜ r ≡ calledOut (dropCalled (schedulerIn c) job) ⌝ }
 {
     let s = layout::scheduler_in(c);
-    reports::outcome::called_out(scheduler::drop(s, job as usize))
+    outcomes::called_out(scheduler::drop(s, job as usize))
 }
 
 // Starts a session.
@@ -77,7 +77,7 @@ pub extern "C" fn fbk_start_by_value(
     ensures { λ _. ⌜ now (table .exit) ≡ insertTable (sessionOf port address timeout idle (now (user .entry)) (now (id .entry)) (now (station .entry)) (now (filter .entry))) (now (table .entry)) ⌝ }
 {
     let s = layout::scheduler_in(c);
-    reports::outcome::called_out(scheduler::table::start(
+    outcomes::called_out(starting::start(
         s,
         table,
         port,
@@ -98,5 +98,5 @@ pub extern "C" fn fbk_end_by_value(c: CScheduler, table: &mut [u8], slot: u32) -
     ensures { λ _. ⌜ now (table .exit) ≡ removeTable slot (now (table .entry)) ⌝ }
 {
     let s = layout::scheduler_in(c);
-    reports::outcome::called_out(scheduler::table::end(s, table, slot as usize))
+    outcomes::called_out(starting::end(s, table, slot as usize))
 }

@@ -2,5 +2,4 @@ pub mod Four
 pub mod Kept
 pub mod Dropping
 pub mod Founding
-pub mod Tables
 pub mod New

@@ -1,5 +1,4 @@
 // The scheduler (document 01's desk): four requests in work, each in small steps.
-pub mod table; // table.rt: session start and end
 pub mod work; // work.rt: which jobs are open, and all of them restarted
 
 ghost use mathlib.Core.Path.{_≡_};
