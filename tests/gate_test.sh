@@ -47,7 +47,7 @@ ci)
     ;;
 staticlib)
     mkdir -p target/staticlib
-    echo 'int made;' | gcc -fPIC -c -x c - -o "target/$2.o" && ar rc "target/staticlib/lib$2.a" "target/$2.o"
+    echo 'int made;' | gcc -fPIC -c -x c - -o target/made.o && ar rc "target/staticlib/lib$2.a" target/made.o
     exit "${LIB_STATUS:-0}"
     ;;
 esac
