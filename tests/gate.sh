@@ -32,6 +32,13 @@ part() { # NAME COMMAND...
     esac
 }
 
+# The prover makes some thousand files for each crate and removes them: in memory that takes a tenth less time.
+in_memory() { # COMMAND...
+    room=$(df -Pk /dev/shm 2>/dev/null | awk 'NR == 2 { print $4 }')
+    if [ -w /dev/shm ] && [ "${room:-0}" -gt 2000000 ]; then export TMPDIR=/dev/shm; fi
+    "$@"
+}
+
 echo '== rt fmt --check'
 layout=$(rt fmt --check 2>&1)
 status=$?
@@ -40,7 +47,7 @@ if [ "$status" -ne 0 ] || [ -n "$layout" ]; then fail 'rt fmt --check'; fi
 
 part 'the gate itself' tests/gate_test.sh
 part 'citations of the guides' python3 tests/trace_check.py
-part 'rt ci' rt ci
+part 'rt ci' in_memory rt ci
 part 'must-fail logs' tests/must_fail_logs.sh
 part 'tests outside the prover' tests/outside.sh
 
