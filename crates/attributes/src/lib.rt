@@ -1,8 +1,6 @@
-// The attribute reader: one attribute at a place, its value as the part of the area that it is, and whether attributes fill the area.
+// Reading the attribute area: one attribute at a place, its value as the part of the area that it is, and whether attributes fill the area.
 ghost use mathlib.Core.Path.{_≡_};
 ghost use Rattle.attributes.specs.Attributes.{stepAt, standing, valueOf, attributes, tiled, firstOf, kindIs};
-
-pub mod reader;
 
 // An attribute: its type, where it stands in the area, and its length, which counts type and length too.
 pub struct Attribute {

@@ -28,7 +28,7 @@ fn put_attribute(t: &mut [u8], to: usize, s: &[u8], a: Attribute) -> usize
     ensures { λ r. ⌜ now (t .exit) ≡ write (now (t .entry)) to (asCame (now (s .entry)) a) ⌝ }
     ensures { λ r. ⌜ r ≡ to + length (asCame (now (s .entry)) a) ⌝ }
 {
-    put(t, to, a.kind, a.size, attributes::reader::value_at(s, a.at))
+    put(t, to, a.kind, a.size, readers::value_at(s, a.at))
 }
 
 // The first State.

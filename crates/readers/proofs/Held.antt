@@ -22,9 +22,9 @@ use denote.Struct.Declared.{Declared}
 use denote.Struct.Laws as LL
 use denote.Struct.Rest.{all-own, ownAt, rest, own-open, own-out}
 use denote.Struct.Values.{Values}
-use Rattle.attributes.specs.declared.reader.Reader.{Reader}
-use Rattle.attributes.proofs.reader.Reader as T
-use Rattle.attributes.proofs.reader.Reader.Laws as T′
+use Rattle.readers.specs.declared.Reader.{Reader}
+use Rattle.readers.proofs.Reader as T
+use Rattle.readers.proofs.Reader.Laws as T′
 
 -- the reader's type, over the signature's lifetimes
 abbrev pub B : Lfts 1 → RattleType

@@ -1,4 +1,4 @@
--- `attributes::reader::value_at` meets its contract: a walk of its MIR, by hand. A reader is made, moved to the place and held in a local; it is asked for what stands there, and for that attribute's value.
+-- `readers::value_at` meets its contract: a walk of its MIR, by hand. A reader is made, moved to the place and held in a local; it is asked for what stands there, and for that attribute's value.
 -- The reader is Copy: what it owns is had twice, for `next` and for `value_in`.
 -- Assumes nothing.
 use mathlib.Core.Path.{_≡_, refl}
@@ -35,29 +35,29 @@ use denote.Triple.Table.{entered}
 use denote.Triple.Walked.{says, Stays, stay-none, stay-none-slice, walkOf, goes-none, goes-none-slice, Walks, ends-at, walked, walk-meets}
 use denote.Exit.{yes}
 use denote.Triple.Clauses.{ensured}
 use Rattle.attributes.specs.Attributes.{stepAt, standing, valueOf, valueAt}
-use Rattle.attributes.specs.Readers.{opened, movedTo}
+use Rattle.readers.specs.Readers.{opened, movedTo}
 use Rattle.attributes.specs.declared.Attribute.{Attribute}
 use Rattle.attributes.specs.declared.Step.{Step}
-use Rattle.attributes.specs.declared.reader.Reader.{Reader}
-use Rattle.attributes.proofs.Held.{B, own-twice, stored}
+use Rattle.readers.specs.declared.Reader.{Reader}
+use Rattle.readers.proofs.Held.{B, own-twice, stored}
 use Rattle.attributes.proofs.Attribute as P
 use Rattle.attributes.proofs.Attribute.Laws as P′
 use Rattle.attributes.proofs.Step as S
 use Rattle.attributes.proofs.Step.Laws as S′
 use Rattle.attributes.proofs.standing as found
-use Rattle.attributes.proofs.reader.new as new
-use Rattle.attributes.proofs.reader.moved as moved
-use Rattle.attributes.proofs.reader.next as next
-use Rattle.attributes.proofs.reader.value_in as inner
-use Rattle.attributes.proofs.reader.value_at.Key.{name as #reader·value-at}
-use Rattle.attributes.proofs.reader.value_at as outer
-use Rattle.attributes.proofs.reader.value_at.Statement as stated
-use Rattle.attributes.proofs.reader.value_at.Code as code
+use Rattle.readers.proofs.new as new
+use Rattle.readers.proofs.moved as moved
+use Rattle.readers.proofs.next as next
+use Rattle.readers.proofs.value_in as inner
+use Rattle.readers.proofs.value_at.Key.{name as #readers·value-at}
+use Rattle.readers.proofs.value_at as outer
+use Rattle.readers.proofs.value_at.Statement as stated
+use Rattle.readers.proofs.value_at.Code as code
 mod Callees
 mod Passed
-use Rattle.attributes.proofs.reader.value_at.Proof.Callees.{New, Moved, Next, Standing, ValueIn, Known, known-all}
-use Rattle.attributes.proofs.reader.value_at.Proof.Passed.{answer, to-new, goes-new, new-said, to-moved, goes-moved, moved-said, to-next, goes-next, next-said, to-standing, goes-standing, standing-said, to-value, goes-value, value-said}
+use Rattle.readers.proofs.value_at.Proof.Callees.{New, Moved, Next, Standing, ValueIn, Known, known-all}
+use Rattle.readers.proofs.value_at.Proof.Passed.{answer, to-new, goes-new, new-said, to-moved, goes-moved, moved-said, to-next, goes-next, next-said, to-standing, goes-standing, standing-said, to-value, goes-value, value-said}
 
 abbrev stayed : Stays (outer.ended .signature .params) (outer.ended .kept)
 stayed = (stay-none-slice (0 ∷ []) tt (plain (λ _. u8)) yes, (stay-none (λ _. usize) yes, tt))
@@ -144,5 +144,5 @@ pub value-at-spec : {M : Type 1} → stated.statement M
 unfolding code.routine tablesOf
 value-at-spec 𝓤 H 𝓜 𝓖 𝓡 =
     entered 𝓤 H (tripleOf 𝓤 H (𝓖 .A) outer.signature (outer.spec 𝓤 H (𝓖 .A) (𝓜 .mem) (𝓡 .run)))
-    (tables 𝓤 H 𝓜 𝓡 code.env .C) (tables 𝓤 H 𝓜 𝓡 code.env .Λ) #reader·value-at code.function (code.unfolded 𝓤 H 𝓜 𝓡)
+    (tables 𝓤 H 𝓜 𝓡 code.env .C) (tables 𝓤 H 𝓜 𝓡 code.env .Λ) #readers·value-at code.function (code.unfolded 𝓤 H 𝓜 𝓡)
     (value-at-meets 𝓤 H (𝓖 .A) (givenOf 𝓤 H 𝓜 𝓖) (𝓜 .mem) (𝓡 .run) (tablesOf 𝓤 H 𝓜 (tables 𝓤 H 𝓜 𝓡 code.env)) (known-all 𝓤 H 𝓜 𝓖 𝓡))

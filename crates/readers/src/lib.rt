@@ -1,7 +1,7 @@
-// A reader over the attribute area keeps the area and its place together. Each function takes it apart and calls one of the crate's.
+// A reader over the attribute area keeps the area and its place together. `next` and `value_in` take it apart and call one of `attributes`.
 ghost use mathlib.Core.Path.{_≡_};
 ghost use Rattle.attributes.specs.Attributes.{stepAt, valueOf, valueAt};
-ghost use Rattle.attributes.specs.Readers.{opened, movedTo};
+ghost use Rattle.readers.specs.Readers.{opened, movedTo};
 
 // An area, and a place in it.
 pub struct Reader<'a> {
@@ -24,17 +24,17 @@ pub fn moved<'a>(r: Reader<'a>, at: usize) -> Reader<'a>
 }
 
 // What stands at the reader's place.
-pub fn next<'a>(r: Reader<'a>) -> crate::Step
+pub fn next<'a>(r: Reader<'a>) -> attributes::Step
     ensures { λ x. ⌜ x ≡ stepAt (now (r .entry .area)) (r .entry .at) ⌝ }
 {
-    crate::step_at(r.area, r.at)
+    attributes::step_at(r.area, r.at)
 }
 
 // The value of an attribute, as the part of the reader's area that it is.
-pub fn value_in<'a>(r: Reader<'a>, a: crate::Attribute) -> &'a [u8]
+pub fn value_in<'a>(r: Reader<'a>, a: attributes::Attribute) -> &'a [u8]
     ensures { λ v. ⌜ now v ≡ valueOf (now (r .entry .area)) a ⌝ }
 {
-    crate::value(r.area, a)
+    attributes::value(r.area, a)
 }
 
 // The value of the attribute that stands at place at of the area s; empty where none does.
@@ -42,6 +42,6 @@ pub fn value_at(s: &[u8], at: usize) -> &[u8]
     ensures { λ v. ⌜ now v ≡ valueAt (now (s .entry)) at ⌝ }
 {
     let r = moved(new(s), at);
-    let a = crate::standing(next(r));
+    let a = attributes::standing(next(r));
     value_in(r, a)
 }

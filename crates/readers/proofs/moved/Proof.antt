@@ -1,4 +1,4 @@
--- `attributes::reader::moved` meets its contract: a walk of its MIR, by hand. A struct is made anew of the slice that the one passed holds, and another number.
+-- `readers::moved` meets its contract: a walk of its MIR, by hand. A struct is made anew of the slice that the one passed holds, and another number.
 -- The struct is Copy: what it owns is had twice, one copy is kept whole for the exit, and the other, with the facts of the number in the place of at's, is what the result owns.
 -- Assumes nothing.
 use mathlib.Core.Path.{refl}
@@ -33,14 +33,14 @@ use denote.Triple.Spec.{Meets, tripleOf}
 use denote.Triple.Table.{entered}
 use denote.Triple.Walked.{says, Stays, stay-none, walkOf, goes-none, Walks, ends-at, walked, walk-meets}
 use denote.Exit.{yes}
-use Rattle.attributes.specs.declared.reader.Reader.{Reader}
-use Rattle.attributes.proofs.Held.{B, Own, own-twice}
-use Rattle.attributes.proofs.reader.Reader as T
-use Rattle.attributes.proofs.reader.Reader.Laws as T′
-use Rattle.attributes.proofs.reader.moved.Key.{name as #reader·moved}
-use Rattle.attributes.proofs.reader.moved as moved
-use Rattle.attributes.proofs.reader.moved.Statement as stated
-use Rattle.attributes.proofs.reader.moved.Code as code
+use Rattle.readers.specs.declared.Reader.{Reader}
+use Rattle.readers.proofs.Held.{B, Own, own-twice}
+use Rattle.readers.proofs.Reader as T
+use Rattle.readers.proofs.Reader.Laws as T′
+use Rattle.readers.proofs.moved.Key.{name as #readers·moved}
+use Rattle.readers.proofs.moved as moved
+use Rattle.readers.proofs.moved.Statement as stated
+use Rattle.readers.proofs.moved.Code as code
 
 abbrev stayed : Stays (moved.ended .signature .params) (moved.ended .kept)
 stayed = (stay-none B yes, (stay-none (λ _. usize) yes, tt))
@@ -89,5 +89,5 @@ pub moved-spec : {M : Type 1} → stated.statement M
 unfolding code.routine tablesOf
 moved-spec 𝓤 H 𝓜 𝓖 𝓡 =
     entered 𝓤 H (tripleOf 𝓤 H (𝓖 .A) moved.signature (moved.spec 𝓤 H (𝓖 .A) (𝓜 .mem) (𝓡 .run)))
-    (tables 𝓤 H 𝓜 𝓡 code.env .C) (tables 𝓤 H 𝓜 𝓡 code.env .Λ) #reader·moved code.function (code.unfolded 𝓤 H 𝓜 𝓡)
+    (tables 𝓤 H 𝓜 𝓡 code.env .C) (tables 𝓤 H 𝓜 𝓡 code.env .Λ) #readers·moved code.function (code.unfolded 𝓤 H 𝓜 𝓡)
     (moved-meets 𝓤 H (𝓖 .A) (givenOf 𝓤 H 𝓜 𝓖) (𝓜 .mem) (𝓡 .run) (tablesOf 𝓤 H 𝓜 (tables 𝓤 H 𝓜 𝓡 code.env)))

@@ -1,4 +1,4 @@
--- The five calls of `attributes::reader::value_at`: what each is passed, what it asks, and what is known of its result.
+-- The five calls of `readers::value_at`: what each is passed, what it asks, and what is known of its result.
 -- A plain value's facts are made anew where a callee asks for them. Assumes nothing.
 use mathlib.Core.Path.{_≡_, refl, ap, _∙_}
 use Prim.Native.Nat.{ℕ, _<_, _^_}
@@ -23,22 +23,22 @@ use denote.Slice.{ShrSlice, shr-slice-copy}
 use denote.Steps.{nothing, owned}
 use denote.Triple.Entry.{onEntry}
 use denote.Triple.Clauses.{ensured, lasts}
 use Rattle.attributes.specs.Attributes.{stepAt, standing, valueOf, valueAt}
-use Rattle.attributes.specs.Readers.{opened, movedTo}
+use Rattle.readers.specs.Readers.{opened, movedTo}
 use Rattle.attributes.specs.declared.Attribute.{Attribute}
 use Rattle.attributes.specs.declared.Step.{Step}
-use Rattle.attributes.specs.declared.reader.Reader.{Reader}
+use Rattle.readers.specs.declared.Reader.{Reader}
 use Rattle.attributes.proofs.Values.{value-standing}
-use Rattle.attributes.proofs.Held.{B}
+use Rattle.readers.proofs.Held.{B}
 use Rattle.attributes.proofs.Attribute as P
 use Rattle.attributes.proofs.Step as S
 use Rattle.attributes.proofs.standing as found
-use Rattle.attributes.proofs.reader.new as new
-use Rattle.attributes.proofs.reader.moved as moved
-use Rattle.attributes.proofs.reader.next as next
-use Rattle.attributes.proofs.reader.value_in as inner
-use Rattle.attributes.proofs.reader.value_at as outer
-use Rattle.attributes.proofs.reader.value_at.Proof.Callees.{New, Moved, Next, Standing, ValueIn}
+use Rattle.readers.proofs.new as new
+use Rattle.readers.proofs.moved as moved
+use Rattle.readers.proofs.next as next
+use Rattle.readers.proofs.value_in as inner
+use Rattle.readers.proofs.value_at as outer
+use Rattle.readers.proofs.value_at.Proof.Callees.{New, Moved, Next, Standing, ValueIn}
 
 -- what the five say of their results gives the value at the place
 pub answer : (s : RefT (List ℕ)) (n : ℕ) (r r′ : Reader) (t : Step) (a : Attribute) (v : RefT (List ℕ))

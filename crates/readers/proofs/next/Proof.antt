@@ -1,4 +1,4 @@
--- `attributes::reader::next` meets its contract: a walk of its MIR, by hand. The struct is taken apart, and `step_at` is called on the slice and the number. All that the proof knows of `step_at` is that it meets its contract.
+-- `readers::next` meets its contract: a walk of its MIR, by hand. The struct is taken apart, and `step_at` is called on the slice and the number. All that the proof knows of `step_at` is that it meets its contract.
 -- The struct is Copy: what it owns is had twice, one copy is kept whole for the exit, and of the other what area owns goes to the callee, beside the lifetime's token, which comes back.
 -- Assumes nothing.
 use mathlib.Core.Path.{_≡_, refl}
@@ -38,22 +38,22 @@ use denote.Triple.Table.{entered, cited}
 use denote.Triple.Walked.{says, Stays, stay-none, walkOf, goes-none, Walks, ends-at, walked, walk-meets}
 use denote.Exit.{yes}
 use denote.Triple.Clauses.{ensured, lasts}
 use Rattle.attributes.specs.Attributes.{stepAt}
-use Rattle.attributes.specs.declared.reader.Reader.{Reader}
+use Rattle.readers.specs.declared.Reader.{Reader}
 use Rattle.attributes.specs.declared.Step.{Step}
-use Rattle.attributes.proofs.Held.{B, Own, AreaOwn, areaVal, area-out}
-use Rattle.attributes.proofs.reader.Reader as T
-use Rattle.attributes.proofs.reader.Reader.Laws as T′
+use Rattle.readers.proofs.Held.{B, Own, AreaOwn, areaVal, area-out}
+use Rattle.readers.proofs.Reader as T
+use Rattle.readers.proofs.Reader.Laws as T′
 use Rattle.attributes.proofs.Step as S
 use Rattle.attributes.proofs.Step.Laws as S′
 use Rattle.attributes.proofs.step_at as step
 use Rattle.attributes.proofs.step_at.Symbol as step-def
 use Rattle.attributes.proofs.step_at.Symbol.{name as #attributes·step-at}
 use Rattle.attributes.proofs.step_at.Met as step-thm
-use Rattle.attributes.proofs.reader.next.Key.{name as #reader·next}
-use Rattle.attributes.proofs.reader.next as next
-use Rattle.attributes.proofs.reader.next.Statement as stated
-use Rattle.attributes.proofs.reader.next.Code as code
+use Rattle.readers.proofs.next.Key.{name as #readers·next}
+use Rattle.readers.proofs.next as next
+use Rattle.readers.proofs.next.Statement as stated
+use Rattle.readers.proofs.next.Code as code
 
 abbrev stayed : Stays (next.ended .signature .params) (next.ended .kept)
 stayed = (stay-none B yes, tt)
@@ -135,6 +135,6 @@ pub next-spec : {M : Type 1} → stated.statement M
 unfolding code.routine tablesOf
 next-spec 𝓤 H 𝓜 𝓖 𝓡 =
     entered 𝓤 H (tripleOf 𝓤 H (𝓖 .A) next.signature (next.spec 𝓤 H (𝓖 .A) (𝓜 .mem) (𝓡 .run)))
-    (tables 𝓤 H 𝓜 𝓡 code.env .C) (tables 𝓤 H 𝓜 𝓡 code.env .Λ) #reader·next code.function (code.unfolded 𝓤 H 𝓜 𝓡)
+    (tables 𝓤 H 𝓜 𝓡 code.env .C) (tables 𝓤 H 𝓜 𝓡 code.env .Λ) #readers·next code.function (code.unfolded 𝓤 H 𝓜 𝓡)
     (next-meets 𝓤 H (𝓖 .A) (givenOf 𝓤 H 𝓜 𝓖) (𝓜 .mem) (𝓡 .run) (tablesOf 𝓤 H 𝓜 (tables 𝓤 H 𝓜 𝓡 code.env))
     (cited 𝓤 H (StepAt 𝓤 H (𝓖 .A) (𝓜 .mem) (𝓡 .run)) 𝓜 𝓡 code.env #attributes·step-at step-def.routine code.calls-attributes·step-at (step-thm.met 𝓤 H 𝓜 𝓖 𝓡)))

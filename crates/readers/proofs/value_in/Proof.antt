@@ -1,4 +1,4 @@
--- `attributes::reader::value_in` meets its contract: a walk of its MIR, by hand. The reader is taken apart, and `value` is called on its area and the attribute; the part that it returns is handed back.
+-- `readers::value_in` meets its contract: a walk of its MIR, by hand. The reader is taken apart, and `value` is called on its area and the attribute; the part that it returns is handed back.
 -- Assumes nothing.
 use mathlib.Core.Path.{_≡_, refl}
 use Prim.Native.Nat.{ℕ}
@@ -35,22 +35,22 @@ use denote.Triple.Table.{entered, cited}
 use denote.Triple.Walked.{says, Stays, stay-none, walkOf, goes-none, Walks, ends-at, walked, walk-meets}
 use denote.Exit.{yes}
 use denote.Triple.Clauses.{ensured, lasts}
 use Rattle.attributes.specs.Attributes.{valueOf}
 use Rattle.attributes.specs.declared.Attribute.{Attribute}
-use Rattle.attributes.specs.declared.reader.Reader.{Reader}
+use Rattle.readers.specs.declared.Reader.{Reader}
 use Rattle.attributes.proofs.Attribute as P
 use Rattle.attributes.proofs.Attribute.Laws as P′
-use Rattle.attributes.proofs.Held.{B, Own, AreaOwn, areaVal, area-out}
-use Rattle.attributes.proofs.reader.Reader as T
-use Rattle.attributes.proofs.reader.Reader.Laws as T′
+use Rattle.readers.proofs.Held.{B, Own, AreaOwn, areaVal, area-out}
+use Rattle.readers.proofs.Reader as T
+use Rattle.readers.proofs.Reader.Laws as T′
 use Rattle.attributes.proofs.value as val
 use Rattle.attributes.proofs.value.Symbol as val-def
 use Rattle.attributes.proofs.value.Symbol.{name as #attributes·value}
 use Rattle.attributes.proofs.value.Met as val-thm
-use Rattle.attributes.proofs.reader.value_in.Key.{name as #reader·value-in}
-use Rattle.attributes.proofs.reader.value_in as inner
-use Rattle.attributes.proofs.reader.value_in.Statement as stated
-use Rattle.attributes.proofs.reader.value_in.Code as code
+use Rattle.readers.proofs.value_in.Key.{name as #readers·value-in}
+use Rattle.readers.proofs.value_in as inner
+use Rattle.readers.proofs.value_in.Statement as stated
+use Rattle.readers.proofs.value_in.Code as code
 
 abbrev stayed : Stays (inner.ended .signature .params) (inner.ended .kept)
 stayed = (stay-none B yes, (stay-none (λ _. P.the-row) yes, tt))
@@ -139,6 +139,6 @@ pub value-in-spec : {M : Type 1} → stated.statement M
 unfolding code.routine tablesOf
 value-in-spec 𝓤 H 𝓜 𝓖 𝓡 =
     entered 𝓤 H (tripleOf 𝓤 H (𝓖 .A) inner.signature (inner.spec 𝓤 H (𝓖 .A) (𝓜 .mem) (𝓡 .run)))
-    (tables 𝓤 H 𝓜 𝓡 code.env .C) (tables 𝓤 H 𝓜 𝓡 code.env .Λ) #reader·value-in code.function (code.unfolded 𝓤 H 𝓜 𝓡)
+    (tables 𝓤 H 𝓜 𝓡 code.env .C) (tables 𝓤 H 𝓜 𝓡 code.env .Λ) #readers·value-in code.function (code.unfolded 𝓤 H 𝓜 𝓡)
     (value-in-meets 𝓤 H (𝓖 .A) (givenOf 𝓤 H 𝓜 𝓖) (𝓜 .mem) (𝓡 .run) (tablesOf 𝓤 H 𝓜 (tables 𝓤 H 𝓜 𝓡 code.env))
     (cited 𝓤 H (ValueAt 𝓤 H (𝓖 .A) (𝓜 .mem) (𝓡 .run)) 𝓜 𝓡 code.env #attributes·value val-def.routine code.calls-attributes·value (val-thm.met 𝓤 H 𝓜 𝓖 𝓡)))

@@ -3,7 +3,7 @@
 use mathlib.Core.List.{List}
 use Prim.Native.Nat.{ℕ}
 use denote.Ref.{RefT}
-use Rattle.attributes.specs.declared.reader.Reader.{Reader}
+use Rattle.readers.specs.declared.Reader.{Reader}
 
 abbrev pub opened : RefT (List ℕ) → Reader
 opened area = record { area = area; at = 0 }
