@@ -5,7 +5,7 @@ use mathlib.Core.List.{List}
 use Prim.Native.Nat.{ℕ, _<_}
 use native.Mathlib.Omega.{arith}
 use lib.IntN.{ℤ}
-use Rattle.rules.specs.Settings.{Settings}
+use Rattle.settings.specs.Settings.{Settings}
 use Rattle.answers.specs.declared.Answer as D
 use Rattle.answers.specs.declared.Answer.the-variants as A
 use Rattle.handler.specs.Handle.{handleAnswer}

@@ -3,7 +3,7 @@
 use mathlib.Core.Path.{_≡_, _∙_}
 use mathlib.Core.List.{List}
 use Prim.Native.Nat.{ℕ}
-use Rattle.rules.specs.Settings.{Settings}
+use Rattle.settings.specs.Settings.{Settings}
 use Rattle.records.specs.Record.{Session}
 use Rattle.scheduler.specs.declared.Scheduler as D
 use Rattle.scheduler.specs.declared.Called as S

@@ -4,7 +4,7 @@ mod scheduling; // scheduling.rt: the scheduler
 ghost use mathlib.Core.Path.{_≡_};
 ghost use mathlib.Core.Bool.{not};
 ghost use lib.Dec.{eqb};
-ghost use Rattle.rules.specs.Settings.{settings};
+ghost use Rattle.settings.specs.Settings.{settings};
 ghost use Rattle.handler.specs.Handle.{handleAnswer, handleTable, handleReply};
 ghost use Rattle.requests.specs.Writer.{draft, writeAnswer, writeOutput};
 ghost use Rattle.reply_check.specs.ReplyCheck.{checkAnswer};

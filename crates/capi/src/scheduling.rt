@@ -1,6 +1,6 @@
 // The scheduler as C calls it, by value: a struct goes in and comes back beside the answer. The header gives the pointer form.
 ghost use mathlib.Core.Path.{_≡_};
-ghost use Rattle.rules.specs.Settings.{settings};
+ghost use Rattle.settings.specs.Settings.{settings};
 ghost use Rattle.records.specs.Record.{sessionOf};
 ghost use Rattle.sessions.specs.Session.{insertTable, removeTable};
 ghost use Rattle.scheduler.specs.Making.{makeAnswer};

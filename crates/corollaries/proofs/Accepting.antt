@@ -15,9 +15,10 @@ use Rattle.causes.specs.Causes.{causeOf}
 use Rattle.rules.specs.declared.Verdict as R
 use Rattle.rules.specs.declared.Verdict.the-variants as J
 use Rattle.packets.specs.Packet.{codeOf, areaOf}
-use Rattle.rules.specs.Settings.{Settings}
+use Rattle.settings.specs.Settings.{Settings}
 use Rattle.packets.specs.Discards.{formOf}
-use Rattle.rules.specs.Discards.{signedBy, badMac}
+use Rattle.macs.specs.Discards.{badMac}
+use Rattle.rules.specs.Discards.{signedBy}
 use Rattle.rules.specs.Verdict.{applies, nakOr, freshVerdict, stampVerdict, checkVerdict, verdictOf}
 use Rattle.answers.specs.declared.Answer.the-variants as A
 use Rattle.handler.specs.Handle.{handleAnswer}

@@ -6,7 +6,7 @@ use mathlib.Core.List.{List}
 use Prim.Native.Nat.{ℕ}
 use lib.Dec.{eqb}
 use lib.ListN.{length}
-use Rattle.rules.specs.Settings.{Settings}
+use Rattle.settings.specs.Settings.{Settings}
 use Rattle.answers.specs.declared.Answer.{Answer}
 use Rattle.handler.specs.Handle.{handleAnswer, handleReply}
 use Rattle.scheduler.specs.declared.Scheduler as D

@@ -17,9 +17,9 @@ use Rattle.causes.specs.Causes.{causeOf}
 use Rattle.rules.specs.declared.Verdict as R
 use Rattle.rules.specs.declared.Verdict.the-variants as J
 use Rattle.packets.specs.Packet.{codeOf, areaOf}
-use Rattle.rules.specs.Settings.{Settings}
+use Rattle.settings.specs.Settings.{Settings}
 use Rattle.packets.specs.Discards.{formOf, badLength, badCode, badAttributes}
-use Rattle.rules.specs.Discards.{badMac}
+use Rattle.macs.specs.Discards.{badMac}
 use Rattle.rules.specs.Verdict.{applies, nakOr, freshVerdict, stampVerdict, checkVerdict, verdictOf}
 
 -- the number of a discard is one of these

@@ -10,7 +10,7 @@ use lib.Dec.{eqb, ltb}
 use lib.ListN.{length}
 use Rattle.octets.specs.Runs.{write}
 use Rattle.survey.specs.Types.{member}
-use Rattle.rules.specs.Settings.{badSecret}
+use Rattle.settings.specs.Settings.{badSecret}
 use Rattle.requests.specs.declared.Written as W
 use Rattle.requests.specs.declared.Written.the-variants.{Done, NotWritten}
 use Rattle.reply_check.specs.declared.Checked as C

@@ -14,7 +14,7 @@ use Rattle.causes.specs.declared.Cause.the-variants.{SessionNotFound}
 use Rattle.rules.specs.declared.Verdict as R
 use Rattle.rules.specs.declared.Verdict.the-variants as J
 use Rattle.packets.specs.Packet.{areaOf}
-use Rattle.rules.specs.Settings.{Settings, badSecret, badName}
+use Rattle.settings.specs.Settings.{Settings, badSecret, badName}
 use Rattle.rules.specs.Discards.{signedBy}
 use Rattle.rules.specs.Verdict.{verdictOf}
 use Rattle.effects.specs.Matching.{matchCount}

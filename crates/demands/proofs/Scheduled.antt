@@ -14,7 +14,7 @@ use Rattle.sessions.specs.declared.Inserted.the-variants.{Slot, NotInserted}
 use Rattle.sessions.specs.declared.Removed as X
 use Rattle.sessions.specs.declared.Removed.the-variants.{Gone, NotRemoved}
 use Rattle.sessions.specs.Session as T
-use Rattle.rules.specs.Settings.{Settings, badSecret, badName}
+use Rattle.settings.specs.Settings.{Settings, badSecret, badName}
 use Rattle.scheduler.specs.declared.Scheduler as D
 use Rattle.scheduler.specs.declared.Called as C
 use Rattle.scheduler.specs.declared.Outcome.the-variants as O

@@ -16,7 +16,7 @@ use Rattle.changes.specs.Change as S
 use Rattle.causes.specs.declared.Cause.{Cause}
 use Rattle.causes.proofs.Passed.{filter-first}
 use Rattle.packets.specs.Packet.{codeOf, lengthOf, areaOf}
-use Rattle.rules.specs.Settings.{Settings}
+use Rattle.settings.specs.Settings.{Settings}
 use Rattle.rules.specs.Verdict.{verdictOf}
 use Rattle.rules.specs.Discards.{signedBy}
 use Rattle.reply.specs.Reply.{bodyOf, replyOf, replyLength}

@@ -14,7 +14,7 @@ use Rattle.records.specs.Record.{Session}
 use Rattle.sessions.specs.Session.{insertAnswer, insertTable, removeAnswer, removeTable}
 use Rattle.sessions.specs.declared.Inserted.the-variants.{NotInserted}
 use Rattle.sessions.specs.declared.Removed.the-variants.{NotRemoved}
-use Rattle.rules.specs.Settings.{Settings}
+use Rattle.settings.specs.Settings.{Settings}
 use Rattle.packets.specs.Discards.{formOf}
 use Rattle.rules.specs.Discards.{signedBy}
 use Rattle.rules.specs.Verdict.{verdictOf}

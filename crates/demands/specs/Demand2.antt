@@ -19,9 +19,10 @@ use Rattle.changes.specs.Change.{altered}
 use Rattle.causes.specs.declared.Cause.{Cause}
 use Rattle.causes.specs.declared.Cause.the-variants.{NoCause}
 use Rattle.packets.specs.Packet.{codeOf, identifierOf, lengthOf, areaOf}
-use Rattle.rules.specs.Settings.{Settings}
+use Rattle.settings.specs.Settings.{Settings}
 use Rattle.packets.specs.Discards.{formOf}
-use Rattle.rules.specs.Discards.{signedBy, badMac}
+use Rattle.macs.specs.Discards.{badMac}
+use Rattle.rules.specs.Discards.{signedBy}
 use Rattle.rules.specs.Verdict.{verdictOf}
 use Rattle.reply.specs.Reply.{statePart, causePart, proxyPart, macPart, replyMac, replyOf}
 use Rattle.effects.specs.Matching.{matchesIn, matchCount}

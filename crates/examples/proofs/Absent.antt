@@ -13,7 +13,7 @@ use Rattle.attributes.proofs.Searches.{any-none, only}
 use Rattle.signing.specs.Signing.{zeros}
 use Rattle.causes.specs.declared.Cause.{Cause}
 use Rattle.packets.specs.Packet.{areaOf}
-use Rattle.rules.specs.Discards.{wrongMac, badMac}
+use Rattle.macs.specs.Discards.{wrongMac, badMac}
 use Rattle.reply.specs.Reply.{ifFound, statePart, causePart, proxyPart, bodyOf, macPart, replyLength}
 
 not-found : (x : Search) → found x ≡ false → x ≡ Missing

@@ -16,7 +16,7 @@ use Rattle.causes.specs.Causes.{errorCause}
 use Rattle.rules.specs.declared.Verdict.{Verdict}
 use Rattle.rules.specs.declared.Verdict.the-variants as J
 use Rattle.packets.specs.Packet.{codeOf, identifierOf, areaOf}
-use Rattle.rules.specs.Settings.{Settings}
+use Rattle.settings.specs.Settings.{Settings}
 use Rattle.rules.specs.Discards.{signedBy}
 use Rattle.rules.specs.Verdict.{verdictOf}
 use Rattle.reply.specs.Reply.{causePart, proxyPart, bodyOf, replyLength, headOf, replyWith, replyMac, replyAuth, replyOf}

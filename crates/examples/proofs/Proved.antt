@@ -15,7 +15,7 @@ use Rattle.blockwise.specs.Block.{blockCount}
 use Rattle.slots.specs.Slot.{live, within}
 use Rattle.stamps.specs.Stamp.{stale, skewOf}
 use Rattle.packets.specs.Packet.{lengthOf}
-use Rattle.rules.specs.Settings.{Settings}
+use Rattle.settings.specs.Settings.{Settings}
 use Rattle.packets.specs.Discards.{badLength, badCode, badAttributes, formOf}
 use Rattle.rules.specs.Verdict.{verdictOf}
 use Rattle.examples.specs.Marked.{Marked}

@@ -16,7 +16,7 @@ use Rattle.stamps.specs.Stamp.{stampOf, stale, skewOf}
 use Rattle.causes.specs.declared.Cause.the-variants.{MissingAttribute, SessionNotFound}
 use Rattle.rules.specs.declared.Verdict.the-variants.{Discarded, Stale}
 use Rattle.packets.specs.Packet.{codeOf, identifierOf, lengthOf, areaOf}
-use Rattle.rules.specs.Settings.{Settings}
+use Rattle.settings.specs.Settings.{Settings}
 use Rattle.packets.specs.Discards.{badLength, badCode}
 use Rattle.rules.specs.Discards.{signedBy}
 use Rattle.rules.specs.Verdict.{freshVerdict, stampVerdict, verdictOf}

@@ -13,7 +13,7 @@ use Rattle.causes.specs.declared.Cause.{Cause}
 use Rattle.packets.specs.Packet.{codeOf, identifierOf, lengthOf, authOf}
 use Rattle.rules.specs.Verdict.{applies}
 use Rattle.packets.specs.Discards.{badLength, badAttributes, formOf, Sized}
-use Rattle.rules.specs.Discards.{badMac}
+use Rattle.macs.specs.Discards.{badMac}
 use Rattle.reply.specs.Reply.{bodyOf, replyLength, headOf, replyOf}
 use Rattle.reply.proofs.Lengths.{length-auth}
 use Rattle.replies.proofs.Back.{maced, reply-is, length-is, reply-code, reply-identifier}

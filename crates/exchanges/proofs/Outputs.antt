@@ -12,7 +12,8 @@ use Rattle.octets.proofs.Write.{length-write}
 use Rattle.signing.specs.Signing.{zeros}
 use Rattle.packets.specs.Packet.{lengthOf}
 use Rattle.packets.specs.Discards.{formOf, Sized}
-use Rattle.rules.specs.Discards.{signedBy, badMac}
+use Rattle.macs.specs.Discards.{badMac}
+use Rattle.rules.specs.Discards.{signedBy}
 use Rattle.frames.proofs.Packets.{length-signed, packet-low}
 use Rattle.replies.proofs.Readback.{head-four, signed-length}
 use Rattle.requests.specs.Writer.{Draft, badGiven, writeRefusal, requestLength, requestOf, writeOutput}

@@ -12,7 +12,8 @@ use Rattle.signing.specs.Signing.{messageAuthenticator}
 use Rattle.signing.proofs.Messages.{Alike, same-first, same-authenticator, same-withAuth}
 use Rattle.packets.specs.Packet.{codeOf, lengthOf, authOf, areaOf}
 use Rattle.packets.specs.Discards.{badLength, badCode, badAttributes, formOf, Sized}
-use Rattle.rules.specs.Discards.{signedBy, wrongMac, badMac}
+use Rattle.macs.specs.Discards.{wrongMac, badMac}
+use Rattle.rules.specs.Discards.{signedBy}
 
 -- p and t have the same first n bytes, and n is p's Length
 module _ (p t : List ℕ) (n : ℕ) (sized : Sized p n) (more : n ≤ length t) (same : part 0 n t ≡ part 0 n p) where

@@ -10,7 +10,8 @@ use Rattle.attributes.specs.Attributes.{attributes, tiled, any, kindIs}
 use Rattle.signing.specs.Signing.{zeros}
 use Rattle.signing.proofs.Messages.{length-zeros}
 use Rattle.packets.specs.Discards.{badCode, formOf}
-use Rattle.rules.specs.Discards.{signedBy, badMac}
+use Rattle.macs.specs.Discards.{badMac}
+use Rattle.rules.specs.Discards.{signedBy}
 use Rattle.frames.specs.Rooms.{macRoom}
 use Rattle.frames.proofs.Packets.{valued, packet, packetLength, packetMac, packetAuth, signedPacket}
 use Rattle.replies.proofs.Plain.{Plain}

@@ -14,7 +14,7 @@ fn put_mac(t: &mut [u8], n: usize, auth: &[u8], secret: &[u8], present: bool)
 {
     if present {
         let at = n - 16;
-        let d = signing::message_authenticator(&*t, n, auth, at, secret);
+        let d = macs::message_authenticator(&*t, n, auth, at, secret);
         octets::copy(t, at, &d);
         return;
     }

@@ -13,7 +13,7 @@ use Rattle.signing.specs.Signing.{zeros, authenticator}
 use Rattle.slots.specs.Slot.{slotCount}
 use Rattle.rules.specs.declared.Verdict as R
 use Rattle.rules.specs.declared.Verdict.the-variants as J
-use Rattle.rules.specs.Settings.{Settings, badSecret, badName}
+use Rattle.settings.specs.Settings.{Settings, badSecret, badName}
 use Rattle.packets.specs.Discards.{formOf, Sized}
 use Rattle.rules.specs.Discards.{signedBy}
 use Rattle.rules.specs.Verdict.{checkVerdict, verdictOf}

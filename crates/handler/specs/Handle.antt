@@ -7,7 +7,7 @@ use lib.Dec.{eqb}
 use Rattle.rules.specs.declared.Verdict as R
 use Rattle.rules.specs.declared.Verdict.the-variants as J
 use Rattle.packets.specs.Packet.{codeOf, areaOf}
-use Rattle.rules.specs.Settings.{Settings}
+use Rattle.settings.specs.Settings.{Settings}
 use Rattle.rules.specs.Discards.{signedBy}
 use Rattle.rules.specs.Verdict.{verdictOf}
 use Rattle.reply.specs.Reply.{replyLength}

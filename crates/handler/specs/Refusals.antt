@@ -5,7 +5,7 @@ use mathlib.Core.List.{List}
 use Prim.Native.Nat.{ℕ}
 use lib.Dec.{eqb, ltb}
 use lib.ListN.{length}
-use Rattle.rules.specs.Settings.{Settings, badSecret, badName}
+use Rattle.settings.specs.Settings.{Settings, badSecret, badName}
 use Rattle.slots.specs.Slot.{slotCount}
 
 -- R1 table length, R2 secret, R3 own NAS-Identifier, R4 reply buffer: the lowest that applies; 0 where none does

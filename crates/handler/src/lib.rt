@@ -4,7 +4,7 @@ mod passed; // passed.rt: what follows D1 to D4
 ghost use mathlib.Core.Path.{_≡_};
 ghost use Prim.Native.Nat.{_≤_};
 ghost use lib.ListN.{length};
-ghost use Rattle.rules.specs.Settings.{settings};
+ghost use Rattle.settings.specs.Settings.{settings};
 ghost use Rattle.rules.specs.Discards.{signedBy};
 ghost use Rattle.rules.specs.Verdict.{verdictOf};
 ghost use Rattle.answers.specs.Replies.{replyAs};
@@ -18,10 +18,10 @@ fn refusal(t: &[u8], secret: &[u8], address: u32, name: &[u8], reply: &[u8]) -> 
     if slots::slot_count(t) == 0 {
         return 1;
     }
-    if rules::limits::bad_secret(secret) {
+    if settings::bad_secret(secret) {
         return 2;
     }
-    if rules::limits::bad_name(name) {
+    if settings::bad_name(name) {
         return 3;
     }
     if reply.len() < 4096 {

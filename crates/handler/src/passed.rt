@@ -8,7 +8,7 @@ ghost use Rattle.survey.specs.Survey.{Surveyed};
 ghost use Rattle.survey.specs.Types.{misfitting, firstRepeated, none};
 ghost use Rattle.causes.specs.declared.Cause.the-variants.{SessionNotFound, NoCause};
 ghost use Rattle.packets.specs.Packet.{codeOf, areaOf};
-ghost use Rattle.rules.specs.Settings.{settings};
+ghost use Rattle.settings.specs.Settings.{settings};
 ghost use Rattle.packets.specs.Discards.{formOf, Sized};
 ghost use Rattle.rules.specs.Verdict.{checkVerdict};
 ghost use Rattle.reply.specs.Reply.{replyLength};

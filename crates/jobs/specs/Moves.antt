@@ -16,7 +16,7 @@ use Rattle.stamps.specs.Stamp.{stampOf, skewOf}
 use Rattle.rules.specs.declared.Verdict as R
 use Rattle.rules.specs.declared.Verdict.the-variants as J
 use Rattle.packets.specs.Packet.{authOf, areaOf}
-use Rattle.rules.specs.Settings.{Settings}
+use Rattle.settings.specs.Settings.{Settings}
 use Rattle.rules.specs.Verdict.{checkVerdict}
 use Rattle.reply.specs.Reply.{replyLength}
 use Rattle.effects.specs.Matching.{matchesIn}

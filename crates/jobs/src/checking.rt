@@ -3,7 +3,7 @@ ghost use mathlib.Core.Path.{_≡_};
 ghost use mathlib.Core.List.{List};
 ghost use Prim.Native.Nat.{ℕ, _≤_};
 ghost use lib.ListN.{length};
-ghost use Rattle.rules.specs.Settings.{settings};
+ghost use Rattle.settings.specs.Settings.{settings};
 ghost use Rattle.rules.specs.declared.Verdict.{Verdict};
 ghost use Rattle.judging.specs.Judged.{judgedAs, replyJudged};
 ghost use Rattle.jobs.specs.Moves.{checkedAs, checkMove, replyAfter};

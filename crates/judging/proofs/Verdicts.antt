@@ -9,7 +9,7 @@ use Rattle.octets.specs.Runs.{write}
 use Rattle.causes.specs.declared.Cause.{Cause}
 use Rattle.rules.specs.declared.Verdict as R
 use Rattle.rules.specs.declared.Verdict.the-variants as J
-use Rattle.rules.specs.Settings.{Settings}
+use Rattle.settings.specs.Settings.{Settings}
 use Rattle.packets.specs.Discards.{Sized}
 use Rattle.rules.specs.Verdict.{checkVerdict}
 use Rattle.reply.specs.Reply.{replyLength, replyOf}

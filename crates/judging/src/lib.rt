@@ -8,7 +8,7 @@ ghost use Rattle.causes.specs.declared.Cause.{Cause};
 ghost use Rattle.rules.specs.declared.Verdict.the-variants.{Nak};
 ghost use Rattle.packets.specs.Packet.{codeOf, areaOf};
 ghost use Rattle.packets.specs.Discards.{formOf, Sized};
-ghost use Rattle.rules.specs.Settings.{settings};
+ghost use Rattle.settings.specs.Settings.{settings};
 ghost use Rattle.rules.specs.Verdict.{checkVerdict};
 ghost use Rattle.reply.specs.Reply.{replyLength};
 ghost use Rattle.judging.specs.Judged.{judgedAs, replyJudged};

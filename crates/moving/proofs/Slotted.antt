@@ -8,7 +8,7 @@ use borrow.Author.Tests.{lt-ltb, le-ltb}
 use lib.Dec.{ltb}
 use Rattle.survey.specs.declared.Flags.{Flags}
 use Rattle.slots.specs.Slot.{slotCount}
-use Rattle.rules.specs.Settings.{settings}
+use Rattle.settings.specs.Settings.{settings}
 use Rattle.answers.specs.declared.Answer.the-variants as A
 use Rattle.answers.specs.Commit.{commitTable}
 use Rattle.jobs.specs.declared.Job.{Job}

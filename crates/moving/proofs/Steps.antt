@@ -11,7 +11,7 @@ use Rattle.blockwise.specs.Block.{blockCount}
 use Rattle.slots.specs.Slot.{slotCount}
 use Rattle.rules.specs.declared.Verdict as R
 use Rattle.rules.specs.declared.Verdict.the-variants as J
-use Rattle.rules.specs.Settings.{Settings}
+use Rattle.settings.specs.Settings.{Settings}
 use Rattle.rules.specs.Verdict.{checkVerdict}
 use Rattle.jobs.specs.declared.Job.{Job}
 use Rattle.jobs.specs.declared.Stage.the-variants.{Free, Hash, Check, Match}

@@ -5,7 +5,7 @@ ghost use Prim.Native.Nat.{_≤_};
 ghost use lib.Dec.{ltb};
 ghost use lib.ListN.{length};
 ghost use Rattle.slots.specs.Slot.{slotCount};
-ghost use Rattle.rules.specs.Settings.{settings};
+ghost use Rattle.settings.specs.Settings.{settings};
 ghost use Rattle.reread.specs.Again.{Stands};
 ghost use Rattle.answers.specs.Commit.{commitTable};
 ghost use Rattle.jobs.specs.Job.{JobOurs};

@@ -6,7 +6,7 @@ use lib.IntN.{ℤ, pos}
 use Rattle.causes.specs.Causes.{errorCause}
 use Rattle.rules.specs.declared.Verdict as D
 use Rattle.rules.specs.declared.Verdict.the-variants.{Discarded, Stale, Nak, Passed}
-use Rattle.rules.specs.Settings.{Settings}
+use Rattle.settings.specs.Settings.{Settings}
 use Rattle.rules.specs.Discards.{signedBy}
 use Rattle.rules.specs.Verdict.{verdictOf}
 

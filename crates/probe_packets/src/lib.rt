@@ -68,7 +68,7 @@ pub extern "C" fn probe_mac(
     if p.len() < n {
         return 1;
     }
-    let d = signing::message_authenticator(p, n, auth, at, secret);
+    let d = macs::message_authenticator(p, n, auth, at, secret);
     octets::copy(out, 0, &d);
     0
 }

@@ -1,7 +1,7 @@
 // The verdict on a request before any session is looked at, in numbers.
 ghost use mathlib.Core.Path.{_≡_};
 ghost use Prim.Native.Nat.{_+_};
-ghost use Rattle.rules.specs.Settings.{settings};
+ghost use Rattle.settings.specs.Settings.{settings};
 ghost use Rattle.probe_packets.specs.Told.{verdict, numberOf, skewOf, stampedOf};
 use rules::Verdict;
 

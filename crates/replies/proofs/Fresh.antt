@@ -19,9 +19,9 @@ use Rattle.causes.proofs.Passed.{repeated, misfit}
 use Rattle.rules.specs.declared.Verdict as R
 use Rattle.rules.specs.declared.Verdict.the-variants as J
 use Rattle.packets.specs.Packet.{codeOf, areaOf}
-use Rattle.rules.specs.Settings.{Settings}
+use Rattle.settings.specs.Settings.{Settings}
 use Rattle.packets.specs.Discards.{Sized}
-use Rattle.rules.specs.Discards.{badMac}
+use Rattle.macs.specs.Discards.{badMac}
 use Rattle.rules.specs.Verdict.{nakOr, freshVerdict, stampVerdict, checkVerdict}
 use Rattle.reply.specs.Reply.{replyLength}
 use Rattle.replies.proofs.Judged.{judged-fits}

@@ -20,7 +20,7 @@ use Rattle.survey.specs.Survey.{sizeOf}
 use Rattle.causes.specs.declared.Cause.{Cause}
 use Rattle.packets.specs.Packet.{areaOf}
 use Rattle.packets.specs.Discards.{Sized}
-use Rattle.rules.specs.Discards.{wrongMac, badMac}
+use Rattle.macs.specs.Discards.{wrongMac, badMac}
 use Rattle.reply.specs.Reply.{replyLength}
 use Rattle.replies.proofs.Fitting.{reply-fits}
 

@@ -16,7 +16,7 @@ use Rattle.signing.specs.Signing.{authenticator, messageAuthenticator}
 use Rattle.signing.proofs.Messages.{length-zeros}
 use Rattle.packets.specs.Packet.{lengthOf, authOf, areaOf}
 use Rattle.packets.specs.Discards.{badLength, badAttributes}
-use Rattle.rules.specs.Discards.{wrongMac, badMac}
+use Rattle.macs.specs.Discards.{wrongMac, badMac}
 use Rattle.frames.proofs.Packets.{valued, packetLength, packetMac, packetAuth, signedPacket, length-signed, length-packetMac, packet-low}
 use Rattle.replies.proofs.Plain.{Plain}
 use Rattle.replies.proofs.Trailing.{trailing, trailer, trailing-first, trailing-once, trailing-tiled, trailing-value}

@@ -14,9 +14,9 @@ use Rattle.signing.specs.Signing.{authenticator}
 use Rattle.survey.specs.declared.Flags.{Flags}
 use Rattle.survey.specs.Survey.{Surveyed}
 use Rattle.packets.specs.Packet.{codeOf, identifierOf, areaOf}
-use Rattle.rules.specs.Settings.{badSecret}
+use Rattle.settings.specs.Settings.{badSecret}
 use Rattle.packets.specs.Discards.{badLength, badAttributes, formOf, Sized}
-use Rattle.rules.specs.Discards.{badMac}
+use Rattle.macs.specs.Discards.{badMac}
 use Rattle.packets.proofs.Forms.{form-good, good-head}
 use Rattle.packets.proofs.Areas.{area-of}
 use Rattle.reply_check.specs.declared.Checked.the-variants.{Right, Failed, NotChecked}

@@ -7,9 +7,9 @@ use lib.Dec.{eqb}
 use Rattle.octets.specs.Runs.{equalBytes}
 use Rattle.signing.specs.Signing.{authenticator}
 use Rattle.packets.specs.Packet.{codeOf, identifierOf, lengthOf, authOf}
-use Rattle.rules.specs.Settings.{badSecret}
+use Rattle.settings.specs.Settings.{badSecret}
 use Rattle.packets.specs.Discards.{badLength, badAttributes, formOf}
-use Rattle.rules.specs.Discards.{badMac}
+use Rattle.macs.specs.Discards.{badMac}
 use Rattle.reply_check.specs.declared.Checked as D
 use Rattle.reply_check.specs.declared.Checked.the-variants.{Right, Failed, NotChecked}
 

@@ -69,7 +69,7 @@ fn mismatch(
     }
     let auth = octets::slice(q, 4, 16);
     if authentic(r, n, auth, secret) {
-        if rules::mac::bad_mac(r, n, auth, secret, f, count, ends, sizes) {
+        if macs::bad_mac(r, n, auth, secret, f, count, ends, sizes) {
             return 6;
         }
         return 0;
@@ -103,7 +103,7 @@ fn failure(secret: &[u8], request: &[u8], reply: &[u8]) -> u8
 pub fn check_reply(secret: &[u8], request: &[u8], reply: &[u8]) -> Checked
     ensures { λ r. ⌜ r ≡ checkAnswer (now (secret .entry)) (now (request .entry)) (now (reply .entry)) ⌝ }
 {
-    if rules::limits::bad_secret(secret) {
+    if settings::bad_secret(secret) {
         return Checked::NotChecked(2);
     }
     let v = failure(secret, request, reply);

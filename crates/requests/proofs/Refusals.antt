@@ -10,7 +10,7 @@ use lib.Dec.{eqb, ltb}
 use lib.ListN.{length}
 use Rattle.octets.specs.Runs.{write}
 use Rattle.attributes.specs.Attributes.{attributes, tiled, any, kindIs}
-use Rattle.rules.specs.Settings.{badSecret}
+use Rattle.settings.specs.Settings.{badSecret}
 use Rattle.requests.specs.declared.Written.the-variants.{Done, NotWritten}
 use Rattle.requests.specs.Writer.{Draft, draft, badGiven, writeRefusal, requestLength, requestOf, writeAnswer, writeOutput}
 

@@ -9,7 +9,7 @@ use Rattle.octets.specs.Numbers.{beBytes}
 use Rattle.octets.specs.Runs.{write}
 use Rattle.attributes.specs.Attributes.{attributes, tiled, any, kindIs}
 use Rattle.signing.specs.Signing.{zeros, authenticator, messageAuthenticator}
-use Rattle.rules.specs.Settings.{badSecret}
+use Rattle.settings.specs.Settings.{badSecret}
 use Rattle.requests.specs.declared.Written as D
 use Rattle.requests.specs.declared.Written.the-variants.{Done, NotWritten}
 

@@ -67,7 +67,7 @@ fn bad_given(given: &[u8], add: bool) -> bool
 pub fn refusal(code: u32, given: &[u8], add: bool, secret: &[u8], out: &[u8]) -> u8
     ensures { λ r. ⌜ ((identifier : ℕ) → r ≡ writeRefusal (now (secret .entry)) (now (out .entry)) (draft code identifier (now (given .entry)) «add»)) ⌝ }
 {
-    if rules::limits::bad_secret(secret) {
+    if settings::bad_secret(secret) {
         return 2;
     }
     if out.len() < 4096 {

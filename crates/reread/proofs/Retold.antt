@@ -18,7 +18,7 @@ use Rattle.causes.specs.declared.Cause.the-variants.{NoCause}
 use Rattle.causes.specs.Causes.{causeOf}
 use Rattle.causes.proofs.Passed.{repeated, misfit}
 use Rattle.packets.specs.Packet.{codeOf, lengthOf, areaOf}
-use Rattle.rules.specs.Settings.{settings}
+use Rattle.settings.specs.Settings.{settings}
 use Rattle.packets.specs.Discards.{formOf, Sized}
 use Rattle.rules.specs.Verdict.{applies}
 use Rattle.packets.proofs.Forms.{good-sized, form-good}

@@ -11,7 +11,7 @@ use Rattle.survey.specs.Survey.{Surveyed}
 use Rattle.stamps.specs.declared.Stamp.the-variants.{Usable}
 use Rattle.stamps.specs.Stamp.{stampOf}
 use Rattle.packets.specs.Packet.{codeOf, areaOf}
-use Rattle.rules.specs.Settings.{settings}
+use Rattle.settings.specs.Settings.{settings}
 use Rattle.packets.specs.Discards.{formOf, Sized}
 use Rattle.reread.specs.declared.Again as D
 use Rattle.reread.specs.declared.Again.the-variants.{Gone, Held}

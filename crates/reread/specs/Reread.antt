@@ -12,7 +12,7 @@ use Rattle.stamps.specs.declared.Stamp.the-variants.{Usable, Unusable}
 use Rattle.stamps.specs.Stamp.{stampOf}
 use Rattle.causes.specs.Causes.{causeOf}
 use Rattle.packets.specs.Packet.{codeOf, lengthOf, areaOf}
-use Rattle.rules.specs.Settings.{Settings}
+use Rattle.settings.specs.Settings.{Settings}
 use Rattle.packets.specs.Discards.{formOf}
 use Rattle.rules.specs.Verdict.{applies}
 

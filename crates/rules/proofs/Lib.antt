@@ -1,3 +1,1 @@
-pub mod Macs
 pub mod Verdicts
-pub mod Bounds

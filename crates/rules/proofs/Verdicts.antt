@@ -17,10 +17,11 @@ use Rattle.stamps.specs.declared.Stamp.the-variants.{Usable, Unusable}
 use Rattle.stamps.specs.Stamp.{stampOf, stale, skewOf}
 use Rattle.causes.specs.declared.Cause.{Cause}
 use Rattle.causes.specs.Causes.{causeOf}
+use Rattle.macs.specs.Discards.{badMac}
+use Rattle.settings.specs.Settings.{Settings}
 use Rattle.rules.specs.declared.Verdict as D
 use Rattle.rules.specs.declared.Verdict.the-variants.{Discarded, Stale, Nak, Passed}
-use Rattle.rules.specs.Settings.{Settings}
-use Rattle.rules.specs.Discards.{signedBy, badMac}
+use Rattle.rules.specs.Discards.{signedBy}
 use Rattle.rules.specs.Verdict.{applies, nakOr, freshVerdict, checkVerdict, verdictOf}
 
 -- s′ is s as the machine holds it

@@ -1,26 +1,12 @@
--- D4 and D5 of document 01's "Silent discards, first that applies".
+-- D4 of document 01's "Silent discards, first that applies".
 -- Assumes nothing.
-use mathlib.Core.Bool.{Bool, not, _&&_, _||_}
+use mathlib.Core.Bool.{Bool}
 use mathlib.Core.List.{List}
-use Prim.Native.Nat.{ℕ, _+_}
-use lib.Dec.{eqb, ltb}
+use Prim.Native.Nat.{ℕ}
 use Rattle.octets.specs.Runs.{equalBytes}
-use Rattle.attributes.specs.declared.Attribute.{Attribute}
-use Rattle.attributes.specs.Attributes.{attributes, valueOf, any, countOf, kindIs}
-use Rattle.packets.specs.Packet.{lengthOf, authOf, areaOf}
-use Rattle.signing.specs.Signing.{zeros, authenticator, messageAuthenticator}
+use Rattle.packets.specs.Packet.{lengthOf, authOf}
+use Rattle.signing.specs.Signing.{zeros, authenticator}
 
 -- D4: the authenticator in the packet is the request's
 unfoldable pub signedBy : List ℕ → List ℕ → Bool
 signedBy secret p = equalBytes (authOf p) (authenticator zeros p (lengthOf p) secret)
-
--- type 80 not of length 18, or wrong: its value stands two bytes behind its place, and the area begins at place 20.
--- `auth` stands in the authenticator's place: zeros in a request, the request's authenticator in a reply.
-unfoldable pub wrongMac : List ℕ → List ℕ → List ℕ → Attribute → Bool
-wrongMac auth secret p a = not (eqb (a .size) 18) || not (equalBytes (valueOf (areaOf p) a) (messageAuthenticator auth p (lengthOf p) (22 + a .at) secret))
-
--- type 80 more than once, or such a one. D5: in a request
-unfoldable pub badMac : List ℕ → List ℕ → List ℕ → Bool
-badMac auth secret p =
-    ltb 1 (countOf (kindIs 80) (attributes (areaOf p)))
-    || any (λ a. kindIs 80 a && wrongMac auth secret p a) (attributes (areaOf p))

@@ -14,10 +14,10 @@ use Rattle.causes.specs.declared.Cause as C
 use Rattle.causes.specs.declared.Cause.the-variants as K
 use Rattle.causes.specs.Causes.{causeOf}
 use Rattle.signing.specs.Signing.{zeros}
+use Rattle.macs.specs.Discards.{badMac}
+use Rattle.settings.specs.Settings.{Settings}
 use Rattle.rules.specs.declared.Verdict as D
 use Rattle.rules.specs.declared.Verdict.the-variants.{Discarded, Stale, Nak, Passed}
-use Rattle.rules.specs.Settings.{Settings}
-use Rattle.rules.specs.Discards.{badMac}
 
 -- a cause applies
 abbrev pub applies : C.Cause → Bool

@@ -1,6 +1,4 @@
 // The verdict on a request before any session is looked at.
-pub mod limits; // limits.rt: R2 and R3
-pub mod mac; // mac.rt: D5
 pub mod nak; // nak.rt: causes 1 to 6
 
 ghost use mathlib.Core.Path.{_≡_};
@@ -8,7 +6,7 @@ ghost use mathlib.Core.Bool.{true};
 ghost use Rattle.packets.specs.Packet.{codeOf, areaOf};
 ghost use Rattle.packets.specs.Discards.{Sized};
 ghost use Rattle.survey.specs.Survey.{Surveyed};
-ghost use Rattle.rules.specs.Settings.{settings};
+ghost use Rattle.settings.specs.Settings.{settings};
 ghost use Rattle.rules.specs.Discards.{signedBy};
 ghost use Rattle.rules.specs.Verdict.{checkVerdict, verdictOf};
 
@@ -39,7 +37,7 @@ pub fn check(
     ensures { λ r. ⌜ r ≡ checkVerdict (settings (now (secret .entry)) address (now (name .entry))) «signed» (now (p .entry)) clock ⌝ }
 {
     if signed {
-        if mac::bad_request_mac(p, n, secret, f, count, ends, sizes) {
+        if macs::bad_request_mac(p, n, secret, f, count, ends, sizes) {
             return Verdict::Discarded(5);
         }
         let s = octets::slice(p, 20, n - 20);

@@ -9,7 +9,7 @@ use borrow.Author.Tests.{ltb-false, eqb-false}
 use lib.Dec.{eqb, ltb}
 use lib.ListN.{length, replicate}
 use Rattle.octets.specs.Runs.{write}
-use Rattle.rules.specs.Settings.{settings, badSecret, badName}
+use Rattle.settings.specs.Settings.{settings, badSecret, badName}
 use Rattle.jobs.specs.declared.Job.{Job}
 use Rattle.jobs.specs.Job.{freeJob}
 use Rattle.scheduler.specs.declared.Scheduler.{Scheduler}

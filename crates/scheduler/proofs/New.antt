@@ -8,7 +8,7 @@ use native.Mathlib.Omega.{arith}
 use lib.ListN.{length, take, replicate, length-replicate}
 use Rattle.octets.specs.Runs.{write}
 use Rattle.octets.proofs.Write.{length-write, take-write}
-use Rattle.rules.specs.Settings.{Settings, settings, badSecret, badName}
+use Rattle.settings.specs.Settings.{Settings, settings, badSecret, badName}
 use Rattle.jobs.specs.Job.{freeJob, JobOurs}
 use Rattle.scheduler.specs.declared.Scheduler.{Scheduler}
 use Rattle.scheduler.specs.Scheduler.{settingsOf, jobAt, Ours}

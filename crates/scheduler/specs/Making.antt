@@ -5,7 +5,7 @@ use mathlib.Core.List.{[]}
 use lib.Dec.{eqb}
 use lib.ListN.{length, replicate}
 use Rattle.octets.specs.Runs.{write}
-use Rattle.rules.specs.Settings.{Settings, settings}
+use Rattle.settings.specs.Settings.{Settings, settings}
 use Rattle.jobs.specs.Job.{freeJob}
 use Rattle.scheduler.specs.declared.Scheduler as D
 use Rattle.scheduler.specs.declared.Made as M

@@ -7,7 +7,7 @@ use Prim.Native.Nat.{ℕ}
 use lib.Dec.{eqb, ltb}
 use lib.ListN.{length}
 use Rattle.slots.specs.Slot.{slotCount}
-use Rattle.rules.specs.Settings.{Settings, badSecret, badName}
+use Rattle.settings.specs.Settings.{Settings, badSecret, badName}
 use Rattle.scheduler.specs.Scheduler.{lowestFree}
 
 -- making: R2, R3

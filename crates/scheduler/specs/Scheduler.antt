@@ -6,7 +6,7 @@ use mathlib.Core.Path.{_≡_}
 use Prim.Native.Nat.{ℕ, _*_, _≤_}
 use lib.ListN.{length, take, getD, set}
 use Rattle.octets.specs.Runs.{part}
-use Rattle.rules.specs.Settings.{Settings, settings}
+use Rattle.settings.specs.Settings.{Settings, settings}
 use Rattle.jobs.specs.declared.Job as B
 use Rattle.jobs.specs.Job.{freeJob, isOpen, restarted, JobOurs}
 use Rattle.scheduler.specs.declared.Scheduler as D

@@ -4,7 +4,7 @@ pub mod work; // work.rt: which jobs are open, and all of them restarted
 ghost use mathlib.Core.Path.{_≡_};
 ghost use Prim.Native.Nat.{_≤_};
 ghost use lib.ListN.{length};
-ghost use Rattle.rules.specs.Settings.{settings};
+ghost use Rattle.settings.specs.Settings.{settings};
 ghost use Rattle.scheduler.specs.Scheduler.{Ours};
 ghost use Rattle.scheduler.specs.Making.{madeOf, makeAnswer};
 ghost use Rattle.scheduler.specs.Calls.{dropCalled};
@@ -68,13 +68,13 @@ pub fn make(secret: &[u8], address: u32, name: &[u8]) -> Made
     ensures { λ r. ⌜ r ≡ makeAnswer (settings (now (secret .entry)) address (now (name .entry))) ⌝ }
     ensures { λ r. ⌜ ((r .refusal ≡ 0 → Ours (r .scheduler))) ⌝ }
 {
-    if rules::limits::bad_secret(secret) {
+    if settings::bad_secret(secret) {
         return Made {
             scheduler: fresh(&secret[..0], 0, &secret[..0]),
             refusal: 2,
         };
     }
-    if rules::limits::bad_name(name) {
+    if settings::bad_name(name) {
         return Made {
             scheduler: fresh(&name[..0], 0, &name[..0]),
             refusal: 3,

@@ -10,7 +10,7 @@ use borrow.Author.Tests.{eqb-true, eqb-false}
 use lib.Dec.{eqb, ltb}
 use lib.ListN.{length}
 use Rattle.slots.specs.Slot.{slotCount}
-use Rattle.rules.specs.Settings.{Settings}
+use Rattle.settings.specs.Settings.{Settings}
 use Rattle.handler.specs.Refusals.{refusalOf}
 use Rattle.scheduler.specs.Scheduler.{lowestFree}
 use Rattle.scheduler.specs.Refusals.{openRefusal, stepRefusal, dropRefusal}

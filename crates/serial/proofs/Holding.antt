@@ -10,7 +10,7 @@ use Rattle.slots.specs.Slot.{slotCount}
 use Rattle.criteria.specs.Marks.{marksAfter}
 use Rattle.rules.specs.declared.Verdict.{Verdict}
 use Rattle.packets.specs.Packet.{lengthOf, areaOf}
-use Rattle.rules.specs.Settings.{Settings}
+use Rattle.settings.specs.Settings.{Settings}
 use Rattle.packets.specs.Discards.{formOf}
 use Rattle.rules.specs.Discards.{signedBy}
 use Rattle.rules.specs.Verdict.{checkVerdict, verdictOf}

@@ -14,8 +14,8 @@ use Rattle.stamps.specs.declared.Stamp.the-variants.{Usable, Unusable}
 use Rattle.causes.specs.declared.Cause.{Cause}
 use Rattle.causes.specs.declared.Cause.the-variants.{SessionNotFound, NoCause}
 use Rattle.packets.specs.Packet.{lengthOf}
-use Rattle.rules.specs.Settings.{Settings}
-use Rattle.rules.specs.Discards.{wrongMac, badMac}
+use Rattle.settings.specs.Settings.{Settings}
+use Rattle.macs.specs.Discards.{wrongMac, badMac}
 use Rattle.rules.specs.Verdict.{freshVerdict, stampVerdict, checkVerdict}
 use Rattle.reply.specs.Reply.{bodyOf, macPart, replyLength, headOf, replyWith, replyMac, replyAuth, replyOf}
 use Rattle.answers.specs.declared.Answer as D

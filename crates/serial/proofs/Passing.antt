@@ -19,8 +19,8 @@ use Rattle.stamps.specs.Stamp.{stampOf}
 use Rattle.causes.specs.Causes.{causeOf}
 use Rattle.rules.specs.declared.Verdict.the-variants as J
 use Rattle.packets.specs.Packet.{codeOf, lengthOf, areaOf}
-use Rattle.rules.specs.Settings.{Settings}
-use Rattle.rules.specs.Discards.{badMac}
+use Rattle.settings.specs.Settings.{Settings}
+use Rattle.macs.specs.Discards.{badMac}
 use Rattle.rules.specs.Verdict.{applies, nakOr, freshVerdict, checkVerdict}
 use Rattle.replies.proofs.Judged.{mac-eighteen}
 use Rattle.replies.proofs.Fresh.{reached, uncaused}

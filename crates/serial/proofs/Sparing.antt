@@ -13,7 +13,7 @@ use Rattle.slots.specs.Slot.{slotCount}
 use Rattle.changes.specs.Change.{countMarked}
 use Rattle.causes.specs.declared.Cause.the-variants.{SessionNotFound}
 use Rattle.packets.specs.Packet.{codeOf, areaOf}
-use Rattle.rules.specs.Settings.{Settings}
+use Rattle.settings.specs.Settings.{Settings}
 use Rattle.effects.specs.Changes.{changeOf}
 use Rattle.effects.proofs.Marked.{none-marked}
 use Rattle.answers.specs.declared.Answer.the-variants as A

@@ -11,7 +11,7 @@ use native.Mathlib.Omega.{arith}
 use lib.ListN.{length, getD, set, List·getD-map}
 use lib.Seq.{getD-set-same, getD-set-other}
 use Rattle.criteria.specs.Marks.{marksAfter}
-use Rattle.rules.specs.Settings.{Settings, badSecret, badName}
+use Rattle.settings.specs.Settings.{Settings, badSecret, badName}
 use Rattle.jobs.specs.declared.Job as B
 use Rattle.jobs.specs.declared.Stage as S
 use Rattle.jobs.specs.declared.Stage.the-variants.{Free, Hash, Check, Match}

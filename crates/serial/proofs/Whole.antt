@@ -8,7 +8,7 @@ use native.Mathlib.Omega.{arith}
 use borrow.Author.Tests.{ne-eqb, le-ltb}
 use lib.ListN.{length, take, getD, replicate}
 use lib.Seq.{length-take-le}
-use Rattle.rules.specs.Settings.{badSecret, badName}
+use Rattle.settings.specs.Settings.{badSecret, badName}
 use Rattle.jobs.specs.Job.{freeJob, isOpen}
 use Rattle.scheduler.specs.declared.Scheduler as D
 use Rattle.scheduler.specs.Scheduler.{settingsOf, jobAt, openAt, Ours}

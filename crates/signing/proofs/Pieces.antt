@@ -1,10 +1,10 @@
--- The signatures as runs of calls: each call says what it holds of every message, and the pieces handed over are the definition's message.
+-- The authenticator as a run of calls: each call says what it holds of every message, and the pieces handed over are the definition's message.
 -- Assumes nothing.
 use mathlib.Core.Path.{_≡_, refl, sym, _∙_}
-use mathlib.Core.List.{List, [], _++_, append-assoc}
+use mathlib.Core.List.{List, [], _++_}
 use Prim.Native.Nat.{ℕ, _+_, _%_, _≤_}
 use native.Mathlib.Omega.{arith}
-use lib.ListN.{length, take, replicate, length-take}
+use lib.ListN.{length, take, length-take}
 use lib.Seq.{take-all}
 use Rattle.octets.specs.Runs.{part, write, equalBytes}
 use Rattle.octets.proofs.Part.{part-whole}
@@ -13,17 +13,16 @@ use Rattle.md5.specs.declared.State.{State}
 use Rattle.md5.specs.Md5.{initial, md5}
 use Rattle.digest.specs.Held.{Held}
 use Rattle.digest.proofs.Pieces.{held-as, held-none, held-short}
-use Rattle.hmac.specs.Hmac.{innerPad, hmac}
-use Rattle.signing.specs.Signing.{withAuth, signed, authenticator, messageAuthenticator}
+use Rattle.signing.specs.Signing.{withAuth, signed, authenticator}
 use Rattle.signing.proofs.Messages.{between, drop-take}
-use Rattle.signing.proofs.Blanked.{front, length-front, length-between, blanked-pieces}
+use Rattle.signing.proofs.Blanked.{front, length-front, length-between}
 
 -- a call of `update` with the piece s
-abbrev Updated : ℕ → List ℕ → State → List ℕ → State → List ℕ → Type 0
+abbrev pub Updated : ℕ → List ℕ → State → List ℕ → State → List ℕ → Type 0
 Updated n s q b r b′ = (l : List ℕ) → Held n l q b → Held (n + length s) (l ++ s) r b′
 
 -- what is held after it, and the count in other words
-then : (n e : ℕ) (m s : List ℕ) (q r : State) (b b′ : List ℕ) → Updated n s q b r b′ → n + length s ≡ e → Held n m q b → Held e (m ++ s) r b′
+pub then : (n e : ℕ) (m s : List ℕ) (q r : State) (b b′ : List ℕ) → Updated n s q b r b′ → n + length s ≡ e → Held n m q b → Held e (m ++ s) r b′
 then n e m s q r b b′ update count held = held-as (n + length s) e (m ++ s) (m ++ s) r b′ count refl (update m held)
 
 -- the front of a packet, by two copies
@@ -35,7 +34,7 @@ fronted b b₁ b₂ p auth e g h l =
 
 module _ (auth p : List ℕ) (n : ℕ) (low : 20 ≤ n) (fits : n ≤ length p) (long : length auth ≡ 16) where
   -- the front in a buffer where no block is begun
-  held-front : (x : ℕ) (m : List ℕ) (q : State) (b b′ : List ℕ) → x % 64 ≡ 0 → b′ ≡ write b 0 (front p auth) → length b ≡ 64
+  pub held-front : (x : ℕ) (m : List ℕ) (q : State) (b b′ : List ℕ) → x % 64 ≡ 0 → b′ ≡ write b 0 (front p auth) → length b ≡ 64
       → Held x m q b → Held (x + 20) (m ++ front p auth) q b′
   held-front x m q b b′ z e lb held =
       let l : length (front p auth) ≡ 20 = length-front auth p (omega arith) long in
@@ -52,28 +51,6 @@ module _ (auth p : List ℕ) (n : ℕ) (low : 20 ≤ n) (fits : n ≤ length p) 
       let h₀ : Held 20 (front p auth) q₀ b₁ = held-front 0 [] q₀ b₀ b₁ refl e lb (rw i (held-none b₀)) in
       let h₁ = then 20 n (front p auth) (between 20 n p) q₀ q₁ b₁ b₂ first (omega arith) h₀ in
       rw (drop-take 20 n p) (last (front p auth ++ between 20 n p ++ secret) (second (front p auth ++ between 20 n p) h₁))
-
-  module _ (at : ℕ) (from : 20 ≤ at) (to : at + 16 ≤ n) where
-    -- behind the key's block: the front, the attributes up to the value, zeros, the attributes behind it
-    pub mac-run : (secret z : List ℕ) (q₀ q₁ q₂ q₃ : State) (b₀ b₁ b₂ b₃ b₄ d : List ℕ) → b₁ ≡ write b₀ 0 (front p auth) → length b₀ ≡ 64 → z ≡ replicate 16 0
-        → ((l : List ℕ) → Held 64 (innerPad secret) q₀ l) → Updated 84 (between 20 at p) q₀ b₁ q₁ b₂ → Updated (at + 64) z q₁ b₂ q₂ b₃
-        → Updated (at + 80) (between (at + 16) n p) q₂ b₃ q₃ b₄ → ((l : List ℕ) → Held (n + 64) (innerPad secret ++ l) q₃ b₄ → d ≡ hmac secret l)
-        → d ≡ messageAuthenticator auth p n at secret
-    unfolding messageAuthenticator
-    mac-run secret z q₀ q₁ q₂ q₃ b₀ b₁ b₂ b₃ b₄ d e lb ez start first second third last =
-        let k = innerPad secret in
-        let f = front p auth in
-        let x = between 20 at p in
-        let y = between (at + 16) n p in
-        let lx = length-between 20 at p from (omega arith) in
-        let ly = length-between (at + 16) n p to (omega arith) in
-        let lz : length z ≡ 16 = rw ez in
-        let h₀ = held-front 64 k q₀ b₀ b₁ refl e lb (start b₀) in
-        let h₁ = then 84 (at + 64) (k ++ f) x q₀ q₁ b₁ b₂ first (omega arith) h₀ in
-        let h₂ = then (at + 64) (at + 80) (k ++ f ++ x) z q₁ q₂ b₂ b₃ second (omega arith) h₁ in
-        let h₃ = then (at + 80) (n + 64) (k ++ f ++ x ++ z) y q₂ q₃ b₃ b₄ third (omega arith) h₂ in
-        rw (blanked-pieces auth p n at fits long from to, ← ez)
-        (last (f ++ x ++ z ++ y) (held-as (n + 64) (n + 64) (k ++ f ++ x ++ z ++ y) (k ++ (f ++ x ++ z ++ y)) q₃ b₄ refl (simp append-assoc) h₃))
 
 -- sixteen bytes are compared with all of a digest
 pub compared : (a d s : List ℕ) (r : _) → r ≡ equalBytes a (part 0 16 d) → d ≡ s → length s ≡ 16 → r ≡ equalBytes a s

@@ -1,13 +1,13 @@
-// The signatures of a packet where it lies: p is the packet, n its Length, bytes behind Length are not looked at.
+// The authenticators of a packet where it lies: p is the packet, n its Length, bytes behind Length are not looked at.
 ghost use mathlib.Core.Path.{_≡_};
 ghost use mathlib.Core.List.{_++_};
-ghost use Prim.Native.Nat.{_+_, _≤_};
+ghost use Prim.Native.Nat.{_≤_};
 ghost use lib.ListN.{length, take};
 ghost use Rattle.octets.specs.Runs.{part, write, equalBytes};
-ghost use Rattle.signing.specs.Signing.{zeros, authenticator, messageAuthenticator};
+ghost use Rattle.signing.specs.Signing.{zeros, authenticator};
 
 // What comes before the attributes, with auth in the authenticator's place, at the start of a block.
-fn front(buf: &mut [u8], p: &[u8], auth: &[u8])
+pub fn front(buf: &mut [u8], p: &[u8], auth: &[u8])
     requires { ⌜ (length (now buf) ≡ 64) × (20 ≤ length (now p)) × (length (now auth) ≡ 16) ⌝ }
     ensures { λ _. ⌜ now (buf .exit) ≡ write (now (buf .entry)) 0 (take 4 (now (p .entry)) ++ now (auth .entry)) ⌝ }
 {
@@ -36,21 +36,6 @@ pub fn request_authenticator(p: &[u8], n: usize, secret: &[u8]) -> [u8; 16]
     authenticator(p, n, &zeros, secret)
 }
 
-// The Message-Authenticator whose value stands at place at: auth is zeros for a request, the request's authenticator for a reply.
-pub fn message_authenticator(p: &[u8], n: usize, auth: &[u8], at: usize, secret: &[u8]) -> [u8; 16]
-    requires { ⌜ (20 ≤ at) × (at + 16 ≤ n) × (n ≤ length (now p)) × (length (now auth) ≡ 16) ⌝ }
-    ensures { λ r. ⌜ r ≡ messageAuthenticator (now (auth .entry)) (now (p .entry)) n at (now (secret .entry)) ⌝ }
-{
-    let held = n + 64;
-    let zero = [0u8; 16];
-    let mut buf = [0u8; 64];
-    front(&mut buf, p, auth);
-    let q = digest::update(&mut buf, hmac::start(secret), 84, &p[20..at]);
-    let q = digest::update(&mut buf, q, at + 64, &zero);
-    let q = digest::update(&mut buf, q, at + 80, &p[at + 16..n]);
-    hmac::finish(&mut buf, q, held, secret)
-}
-
 // Whether a request holds its authenticator (D4).
 pub fn request_signed(p: &[u8], n: usize, secret: &[u8]) -> bool
     requires { ⌜ (20 ≤ n) × (n ≤ length (now p)) ⌝ }
@@ -58,13 +43,4 @@ pub fn request_signed(p: &[u8], n: usize, secret: &[u8]) -> bool
 {
     let d = request_authenticator(p, n, secret);
     octets::equal16(p, 4, &d, 0)
-}
-
-// Whether the value at place at is the packet's Message-Authenticator (D5).
-pub fn mac_right(p: &[u8], n: usize, auth: &[u8], at: usize, secret: &[u8]) -> bool
-    requires { ⌜ (20 ≤ at) × (at + 16 ≤ n) × (n ≤ length (now p)) × (length (now auth) ≡ 16) ⌝ }
-    ensures { λ r. ⌜ r ≡ equalBytes (part at 16 (now (p .entry))) (messageAuthenticator (now (auth .entry)) (now (p .entry)) n at (now (secret .entry))) ⌝ }
-{
-    let d = message_authenticator(p, n, auth, at, secret);
-    octets::equal16(p, at, &d, 0)
 }
