@@ -20,6 +20,7 @@ use Rattle.rules.specs.Verdict.{checkVerdict}
 use Rattle.answers.specs.declared.Answer as D
 use Rattle.answers.specs.declared.Answer.the-variants as A
 use Rattle.answers.specs.Commit.{countAnswer, commitAnswer, commitTable}
+use Rattle.judging.specs.Judged.{judgedAs}
 use Rattle.jobs.specs.declared.Job as B
 use Rattle.jobs.specs.declared.Stage as S
 use Rattle.jobs.specs.declared.Stage.the-variants as P
@@ -48,13 +49,13 @@ Quit t u m = QuitAs (m .job) t u (m .ending)
 
 -- ---- Check
 
-judged-quits : (j : B.Job) (q t : List ℕ) (x : R.Verdict) → Among (4 ∷ 5 ∷ 6 ∷ []) x → Quit t t (checkedAs j q x)
+judged-quits : (j : B.Job) (q t : List ℕ) (x : R.Verdict) → Among (4 ∷ 5 ∷ 6 ∷ []) x → Quit t t (checkedAs j (judgedAs q x))
 judged-quits j q t (J.Discarded d) h = (or-right (eqb d 1) (member d (4 ∷ 5 ∷ 6 ∷ [])) h, refl, refl)
 judged-quits j q t (J.Stale k) h = (refl, refl)
 judged-quits j q t (J.Nak c k) h = tt
 judged-quits j q t (J.Passed k) h = tt
 
-check-by : (g : Settings) (j : B.Job) (q t : List ℕ) (f : Bool) → Quit t t (cond f (checkedAs j q (checkVerdict g (wordsSigned j q) q (j .clock))) (done (A.Discarded 1)))
+check-by : (g : Settings) (j : B.Job) (q t : List ℕ) (f : Bool) → Quit t t (cond f (checkedAs j (judgedAs q (checkVerdict g (wordsSigned j q) q (j .clock)))) (done (A.Discarded 1)))
 check-by g j q t true = judged-quits j q t (checkVerdict g (wordsSigned j q) q (j .clock)) (check-among g q (j .clock) (wordsSigned j q))
 check-by g j q t false = (refl, refl, refl)
 

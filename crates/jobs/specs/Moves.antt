@@ -13,17 +13,17 @@ use Rattle.slots.specs.Slot.{slotCount}
 use Rattle.stamps.specs.declared.Stamp as T
 use Rattle.stamps.specs.declared.Stamp.the-variants.{Usable, Unusable}
 use Rattle.stamps.specs.Stamp.{stampOf, skewOf}
-use Rattle.rules.specs.declared.Verdict as R
-use Rattle.rules.specs.declared.Verdict.the-variants as J
 use Rattle.packets.specs.Packet.{authOf, areaOf}
 use Rattle.settings.specs.Settings.{Settings}
 use Rattle.rules.specs.Verdict.{checkVerdict}
-use Rattle.reply.specs.Reply.{replyLength}
 use Rattle.effects.specs.Matching.{matchesIn}
 use Rattle.answers.specs.declared.Answer as D
 use Rattle.answers.specs.declared.Answer.the-variants as A
 use Rattle.answers.specs.Replies.{replyAs}
 use Rattle.answers.specs.Commit.{commitAnswer, commitTable}
+use Rattle.judging.specs.declared.Judged as G
+use Rattle.judging.specs.declared.Judged.the-variants.{Ended, Passed}
+use Rattle.judging.specs.Judged.{judgedAs}
 use Rattle.jobs.specs.declared.Job as B
 use Rattle.jobs.specs.declared.Stage as S
 use Rattle.jobs.specs.declared.Stage.the-variants.{Free, Hash, Check, Match}
@@ -56,15 +56,13 @@ hashJob secret j k q =
 unfoldable pub wordsSigned : B.Job → List ℕ → Bool
 wordsSigned j q = equalBytes (authOf q) (output (hashState (j .words)))
 
--- Check: D4 to D6 and causes 1 to 6; what passed goes on to slot 0
-abbrev pub checkedAs : B.Job → List ℕ → R.Verdict → M.Moved
-checkedAs j q (J.Discarded d) = done (A.Discarded d)
-checkedAs j q (J.Stale skew) = done (A.Stale skew)
-checkedAs j q (J.Nak c skew) = done (A.Nak c skew (replyLength q c))
-checkedAs j q (J.Passed skew) = going (atFirstSlot j)
+-- Check: D4 to D6 and causes 1 to 6; an answer ends the job, what passed goes on to slot 0
+abbrev pub checkedAs : B.Job → G.Judged → M.Moved
+checkedAs j (Ended a) = done a
+checkedAs j Passed = going (atFirstSlot j)
 
 unfoldable pub checkMove : Settings → B.Job → List ℕ → M.Moved
-checkMove g j q = cond (holds (j .length) q) (checkedAs j q (checkVerdict g (wordsSigned j q) q (j .clock))) (done (A.Discarded 1))
+checkMove g j q = cond (holds (j .length) q) (checkedAs j (judgedAs q (checkVerdict g (wordsSigned j q) q (j .clock)))) (done (A.Discarded 1))
 
 -- Match: slot k
 unfoldable pub matchJob : B.Job → ℕ → List ℕ → List ℕ → B.Job

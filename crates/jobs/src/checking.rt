@@ -1,20 +1,16 @@
 // Check: D4 by the words as held, D5, D6 and causes 1 to 6.
 ghost use mathlib.Core.Path.{_≡_};
-ghost use mathlib.Core.List.{List};
-ghost use Prim.Native.Nat.{ℕ, _≤_};
+ghost use Prim.Native.Nat.{_≤_};
 ghost use lib.ListN.{length};
 ghost use Rattle.settings.specs.Settings.{settings};
-ghost use Rattle.rules.specs.declared.Verdict.{Verdict};
-ghost use Rattle.judging.specs.Judged.{judgedAs, replyJudged};
 ghost use Rattle.jobs.specs.Moves.{checkedAs, checkMove, replyAfter};
 use crate::Job;
 use crate::Moved;
 use judging::Judged;
 
-// The job after the verdict that x comes from: finished, or at slot 0.
+// The job after that: finished, or at slot 0.
 fn checked(j: Job, x: Judged) -> Moved
-    ensures { λ r. ⌜ ((q : List ℕ) (v : Verdict) → x ≡ judgedAs q v → r ≡ checkedAs j q v) ⌝ }
-    ensures { λ r. ⌜ ((secret q b : List ℕ) → replyJudged secret q b x ≡ replyAfter secret q b (r .ending)) ⌝ }
+    ensures { λ r. ⌜ r ≡ checkedAs j x ⌝ }
 {
     match x {
         Judged::Ended(a) => crate::done(a),

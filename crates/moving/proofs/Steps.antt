@@ -9,10 +9,11 @@ use lib.Dec.{ltb}
 use lib.ListN.{length}
 use Rattle.blockwise.specs.Block.{blockCount}
 use Rattle.slots.specs.Slot.{slotCount}
-use Rattle.rules.specs.declared.Verdict as R
-use Rattle.rules.specs.declared.Verdict.the-variants as J
 use Rattle.settings.specs.Settings.{Settings}
 use Rattle.rules.specs.Verdict.{checkVerdict}
+use Rattle.judging.specs.declared.Judged.{Judged}
+use Rattle.judging.specs.declared.Judged.the-variants.{Ended, Passed}
+use Rattle.judging.specs.Judged.{judgedAs}
 use Rattle.jobs.specs.declared.Job.{Job}
 use Rattle.jobs.specs.declared.Stage.the-variants.{Free, Hash, Check, Match}
 use Rattle.jobs.specs.declared.Moved.{Moved}
@@ -85,15 +86,13 @@ module _ (secret : List ℕ) (k : ℕ) (j : Job) (ours : JobOurs (length secret)
 pub ours-free : (s : ℕ) (j : Job) (r : Moved) → JobOurs s j → r ≡ going j → JobOurs s (r .job)
 ours-free s j r h e = rw e h
 
-checked-ours : (s : ℕ) (j : Job) (q : List ℕ) (v : R.Verdict) → JobOurs s (checkedAs j q v .job)
-checked-ours s j q (J.Discarded d) = tt
-checked-ours s j q (J.Stale k) = tt
-checked-ours s j q (J.Nak c k) = tt
-checked-ours s j q (J.Passed k) = tt
+checked-ours : (s : ℕ) (j : Job) (x : Judged) → JobOurs s (checkedAs j x .job)
+checked-ours s j (Ended a) = tt
+checked-ours s j Passed = tt
 
 check-ours : (s : ℕ) (g : Settings) (j : Job) (q : List ℕ) (b : Bool) → holds (j .length) q ≡ b → JobOurs s (checkMove g j q .job)
 unfolding checkMove
-check-ours s g j q true e = rw e (checked-ours s j q (checkVerdict g (wordsSigned j q) q (j .clock)))
+check-ours s g j q true e = rw e (checked-ours s j (judgedAs q (checkVerdict g (wordsSigned j q) q (j .clock))))
 check-ours s g j q false e = rw e tt
 
 pub ours-check : (s : ℕ) (g : Settings) (j : Job) (q : List ℕ) (r : Moved) → r ≡ checkMove g j q → JobOurs s (r .job)

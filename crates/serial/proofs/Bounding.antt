@@ -12,11 +12,12 @@ use lib.ListN.{length, set}
 use Rattle.blockwise.specs.Block.{blockCount}
 use Rattle.slots.specs.Slot.{slotCount}
 use Rattle.slots.proofs.Count.{counted}
-use Rattle.rules.specs.declared.Verdict as R
-use Rattle.rules.specs.declared.Verdict.the-variants as J
 use Rattle.settings.specs.Settings.{Settings}
 use Rattle.rules.specs.Verdict.{checkVerdict}
 use Rattle.answers.specs.declared.Answer.the-variants as A
+use Rattle.judging.specs.declared.Judged.{Judged}
+use Rattle.judging.specs.declared.Judged.the-variants as G
+use Rattle.judging.specs.Judged.{judgedAs}
 use Rattle.jobs.specs.declared.Job as B
 use Rattle.jobs.specs.declared.Stage as S
 use Rattle.jobs.specs.declared.Stage.the-variants.{Free, Hash, Check, Match}
@@ -47,12 +48,10 @@ hash-less : (f : Bool) (k n : ℕ) → ltb (k + 1) n ≡ f → n ≤ 66 → left
 hash-less true k n e h = omega (arith, ltb-true (k + 1) n e)
 hash-less false k n e h = omega arith
 
-checked-less : (f : Bool) (v : R.Verdict) (j : B.Job) (q : List ℕ) → Less Check (cond f (checkedAs j q v) (done (A.Discarded 1)))
-checked-less true (J.Discarded d) j q = tt
-checked-less true (J.Stale skew) j q = tt
-checked-less true (J.Nak c skew) j q = tt
-checked-less true (J.Passed skew) j q = omega arith
-checked-less false v j q = tt
+checked-less : (f : Bool) (x : Judged) (j : B.Job) → Less Check (cond f (checkedAs j x) (done (A.Discarded 1)))
+checked-less true (G.Ended a) j = tt
+checked-less true G.Passed j = omega arith
+checked-less false x j = tt
 
 slot-less : (f e : Bool) (k n : ℕ) (j : B.Job) (q t : List ℕ) → ltb k n ≡ e → n ≤ 64
     → Less (Match k) (cond f (cond e (going (matchJob j k q t)) (commitMove j q t)) (done (A.Discarded 1)))
@@ -65,7 +64,7 @@ pub moved-less : (g : Settings) (x : S.Stage) (j : B.Job) (q t : List ℕ) → b
 unfolding hashJob checkMove slotMove
 moved-less g Free j q t h o = absurd (false≢true o)
 moved-less g (Hash k) j q t h o = hash-less _ k (blockCount (j .length + length (g .secret))) refl h
-moved-less g Check j q t h o = checked-less (holds (j .length) q) (checkVerdict g (wordsSigned j q) q (j .clock)) j q
+moved-less g Check j q t h o = checked-less (holds (j .length) q) (judgedAs q (checkVerdict g (wordsSigned j q) q (j .clock))) j
 moved-less g (Match k) j q t h o = slot-less (holdsPassed g (j .length) q) (ltb k (slotCount t)) k (slotCount t) j q t refl (counted t .most)
 
 -- ---- the list, after a step

@@ -25,6 +25,7 @@ use Rattle.rules.specs.Verdict.{checkVerdict}
 use Rattle.reply.specs.Reply.{replyLength}
 use Rattle.answers.specs.declared.Answer.the-variants as A
 use Rattle.handler.specs.Refusals.{refusalOf}
+use Rattle.judging.specs.Judged.{judgedAs}
 use Rattle.jobs.specs.declared.Job as B
 use Rattle.jobs.specs.declared.Stage.the-variants.{Hash, Check}
 use Rattle.chaining.specs.Words.{wordsOf, hashState}
@@ -77,7 +78,7 @@ module _ (g : Settings) (p : List ℕ) (clock : ℕ) (q t b : List ℕ) (open-to
       ∙ ap (λ (a : List ℕ). equalBytes a (authenticator zeros p (lengthOf p) (g .secret))) (same .auth)
 
   checked-right : (v : R.Verdict) (j : B.Job) → j .length ≡ lengthOf p → j .clock ≡ clock → checkVerdict g (signedBy (g .secret) p) p clock ≡ v
-      → Right g p clock q t b (checkedAs j q v) t
+      → Right g p clock q t b (checkedAs j (judgedAs q v)) t
   unfolding marksAfter
   checked-right (J.Discarded d) j l c e = ends-with g p clock q t b (A.Discarded d) t same (handled-as g p clock q t b open-to good (J.Discarded d) e) refl
   checked-right (J.Stale skew) j l c e = ends-with g p clock q t b (A.Stale skew) t same (handled-as g p clock q t b open-to good (J.Stale skew) e) refl

@@ -10,13 +10,14 @@ use lib.Dec.{ltb}
 use lib.ListN.{length}
 use Rattle.blockwise.specs.Block.{blockCount}
 use Rattle.slots.specs.Slot.{slotCount}
-use Rattle.rules.specs.declared.Verdict as R
-use Rattle.rules.specs.declared.Verdict.the-variants as J
 use Rattle.packets.specs.Packet.{lengthOf}
 use Rattle.settings.specs.Settings.{Settings}
 use Rattle.packets.specs.Discards.{formOf}
 use Rattle.rules.specs.Verdict.{checkVerdict}
 use Rattle.answers.specs.declared.Answer.the-variants as A
+use Rattle.judging.specs.declared.Judged.{Judged}
+use Rattle.judging.specs.declared.Judged.the-variants.{Ended, Passed}
+use Rattle.judging.specs.Judged.{judgedAs}
 use Rattle.jobs.specs.declared.Job as B
 use Rattle.jobs.specs.declared.Stage as S
 use Rattle.jobs.specs.declared.Stage.the-variants.{Free, Hash, Check, Match}
@@ -32,12 +33,10 @@ hash-placed : (f : Bool) (k n l : ℕ) → ltb (k + 1) (blockCount (l + n)) ≡ 
 hash-placed true k n l e h = (h .0, h .1, ltb-true (k + 1) (blockCount (l + n)) e)
 hash-placed false k n l e h = tt
 
-checked-placed : (f : Bool) (n : ℕ) (v : R.Verdict) (j : B.Job) (q : List ℕ) → JobOurs n (cond f (checkedAs j q v) (done (A.Discarded 1)) .job)
-checked-placed true n (J.Discarded d) j q = tt
-checked-placed true n (J.Stale skew) j q = tt
-checked-placed true n (J.Nak c skew) j q = tt
-checked-placed true n (J.Passed skew) j q = tt
-checked-placed false n v j q = tt
+checked-placed : (f : Bool) (n : ℕ) (x : Judged) (j : B.Job) → JobOurs n (cond f (checkedAs j x) (done (A.Discarded 1)) .job)
+checked-placed true n (Ended a) j = tt
+checked-placed true n Passed j = tt
+checked-placed false n x j = tt
 
 slot-placed : (f e : Bool) (n k : ℕ) (j : B.Job) (q t : List ℕ) → JobOurs n (cond f (cond e (going (matchJob j k q t)) (commitMove j q t)) (done (A.Discarded 1)) .job)
 unfolding matchJob commitMove
@@ -49,7 +48,7 @@ stage-placed : (g : Settings) (n : ℕ) (x : S.Stage) (j : B.Job) (q t : List �
 unfolding hashJob checkMove slotMove
 stage-placed g n Free j q t e i h = rw i h
 stage-placed g n (Hash k) j q t e i h = rw e (hash-placed (ltb (k + 1) (blockCount (j .length + n))) k n (j .length) refl h)
-stage-placed g n Check j q t e i h = checked-placed (holds (j .length) q) n (checkVerdict g (wordsSigned j q) q (j .clock)) j q
+stage-placed g n Check j q t e i h = checked-placed (holds (j .length) q) n (judgedAs q (checkVerdict g (wordsSigned j q) q (j .clock))) j
 stage-placed g n (Match k) j q t e i h = slot-placed (holdsPassed g (j .length) q) (ltb k (slotCount t)) n k j q t
 
 pub moved-ours : (g : Settings) (n : ℕ) (j : B.Job) (q t : List ℕ) → length (g .secret) ≡ n → JobOurs n j → JobOurs n (moved g j q t .job)

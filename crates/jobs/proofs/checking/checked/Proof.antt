@@ -1,15 +1,15 @@
--- `jobs::checking::checked` meets its contract: each arm is what the definition has for such a verdict.
+-- `jobs::checking::checked` meets its contract: each arm is that of the definition.
 -- Assumes nothing.
 use borrow.Author.Needs.{needs}
-use Rattle.jobs.proofs.Checked.{check-ended, check-passed, ended-reply, passed-reply}
+use Rattle.jobs.proofs.Checked.{check-ended, check-passed}
 use Rattle.jobs.proofs.checking.checked.Statement.{statement}
 use Rattle.jobs.proofs.checking.checked.Tie as tie
 
 returns : tie.Need-returns
-returns c = (search (needs, check-ended), search (needs, ended-reply))
+returns c = search (needs, check-ended)
 
 returns-2 : tie.Need-returns-2
-returns-2 c = (search (needs, check-passed), search (needs, passed-reply))
+returns-2 c = search (needs, check-passed)
 
 pub checked-spec : {M : Type 1} → statement M
 checked-spec =
