@@ -69,7 +69,7 @@ pub fn commit(
     ensures { λ r. ⌜ now (t .exit) ≡ commitTable (now (p .entry)) (now (marks .entry)) (now (t .entry)) ⌝ }
     ensures { λ r. ⌜ now (reply .exit) ≡ replyAs (now (secret .entry)) (now (p .entry)) (now (reply .entry)) (commitAnswer (now (p .entry)) (now (marks .entry)) (now (t .entry)) skew) ⌝ }
 {
-    let s = octets::slice(p, 20, n - 20);
+    let s = runs::slice(p, 20, n - 20);
     let c = effects::change(s, p[0], f, count, ends, sizes);
     let changed = changes::change_marked(t, s, marks, c);
     if changed == 0 {

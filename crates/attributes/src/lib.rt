@@ -71,8 +71,8 @@ pub fn value(s: &[u8], a: Attribute) -> &[u8]
     ensures { λ r. ⌜ now r ≡ valueOf (now (s .entry)) a ⌝ }
 {
     let size = a.size;
-    let whole = octets::slice(s, a.at, size as usize);
-    octets::slice(whole, 2, 253)
+    let whole = runs::slice(s, a.at, size as usize);
+    runs::slice(whole, 2, 253)
 }
 
 // Whether attributes fill the area exactly.

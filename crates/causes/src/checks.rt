@@ -17,7 +17,7 @@ pub fn other_value(
     ensures { λ r. ⌜ r ≡ differsAt (now (s .entry)) (now (count .entry)) (now (ends .entry)) (now (sizes .entry)) kind (now (own .entry)) ⌝ }
 {
     if has(count, kind) {
-        return !octets::equal(value_of(s, ends, sizes, kind), own);
+        return !runs::equal(value_of(s, ends, sizes, kind), own);
     }
     false
 }

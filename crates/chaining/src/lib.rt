@@ -41,5 +41,5 @@ pub fn is_authenticator(words: [u32; 4], q: &[u8]) -> bool
     ensures { λ r. ⌜ r ≡ equalBytes (authOf (now (q .entry))) (output (hashState words)) ⌝ }
 {
     let d = digest::bytes_of(state_of(words));
-    octets::equal16(q, 4, &d, 0)
+    runs::equal16(q, 4, &d, 0)
 }

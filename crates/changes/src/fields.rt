@@ -26,7 +26,7 @@ pub fn set_text(t: &mut [u8], at: usize, p: &[u8], x: super::Text)
             t,
             at,
             32,
-            octets::slice(p, place, size),
+            runs::slice(p, place, size),
         ),
     }
 }

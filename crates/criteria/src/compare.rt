@@ -32,7 +32,7 @@ fn alike(a: &[u8], b: &[u8]) -> bool
         }
         i += 4;
     }
-    octets::equal(&a[i..], &b[i..])
+    runs::equal(&a[i..], &b[i..])
 }
 
 // The bytes of a field.
@@ -41,8 +41,8 @@ fn field_of(s: &[u8], f: super::Field) -> &[u8]
 {
     match f {
         super::Field::UserName => slots::text_at(s, 18),
-        super::Field::NasPort => octets::slice(s, 2, 4),
-        super::Field::FramedAddress => octets::slice(s, 6, 4),
+        super::Field::NasPort => runs::slice(s, 2, 4),
+        super::Field::FramedAddress => runs::slice(s, 6, 4),
         super::Field::CallingStation => slots::text_at(s, 115),
         super::Field::SessionId => slots::text_at(s, 82),
     }
@@ -55,7 +55,7 @@ pub fn meets_one(p: &[u8], s: &[u8], c: super::Criterion) -> bool
     let at = c.at;
     let size = c.size;
     let field = c.field;
-    alike(octets::slice(p, at, size), field_of(s, field))
+    alike(runs::slice(p, at, size), field_of(s, field))
 }
 
 // Whether the value asked for lies in the request p as a whole, and is no longer than a text can be.

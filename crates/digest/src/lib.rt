@@ -15,7 +15,7 @@ fn aligned(buf: &mut [u8], q: State, s: &[u8]) -> State
 {
     let r = md5::blocks(q, s);
     let e = s.len() / 64 * 64;
-    octets::copy(buf, 0, &s[e..]);
+    runs::copy(buf, 0, &s[e..]);
     r
 }
 
@@ -30,10 +30,10 @@ pub fn update(buf: &mut [u8], q: State, n: usize, s: &[u8]) -> State
     }
     let j = 64 - f;
     if s.len() < j {
-        octets::copy(buf, f, s);
+        runs::copy(buf, f, s);
         return q;
     }
-    octets::copy(&mut *buf, f, &s[..j]);
+    runs::copy(&mut *buf, f, &s[..j]);
     let r = md5::blocks(q, &*buf);
     aligned(buf, r, &s[j..])
 }
@@ -83,7 +83,7 @@ fn put_end(buf: &mut [u8], at: usize, n: usize)
     requires { ⌜ (length (now buf) ≡ 64) × (at ≤ 56) ⌝ }
     ensures { λ _. ⌜ now (buf .exit) ≡ write (now (buf .entry)) at (replicate (56 - at) 0 ++ leBytes 8 (n * 8)) ⌝ }
 {
-    octets::fill(&mut *buf, at, 56 - at, 0);
+    runs::fill(&mut *buf, at, 56 - at, 0);
     put_count(buf, n);
 }
 
@@ -106,7 +106,7 @@ pub fn finish(buf: &mut [u8], q: State, n: usize) -> [u8; 16]
         put_end(&mut *buf, f + 1, n);
         return bytes_of(md5::blocks(q, &*buf));
     }
-    octets::fill(&mut *buf, f + 1, 63 - f, 0);
+    runs::fill(&mut *buf, f + 1, 63 - f, 0);
     let r = md5::blocks(q, &*buf);
     put_end(&mut *buf, 0, n);
     bytes_of(md5::blocks(r, &*buf))

@@ -38,7 +38,7 @@ fn matched(
     ensures { λ r. ⌜ now (t .exit) ≡ tableAs (now (p .entry)) (now (t .entry)) r ⌝ }
     ensures { λ r. ⌜ now (reply .exit) ≡ replyAs (now (secret .entry)) (now (p .entry)) (now (reply .entry)) r ⌝ }
 {
-    let s = octets::slice(p, 20, n - 20);
+    let s = runs::slice(p, 20, n - 20);
     let c = effects::criteria(count, ends, sizes);
     let marks = marking::mark_all(t, s, c);
     answers::commit(t, &marks, reply, p, n, secret, skew, f, count, ends, sizes)
@@ -98,7 +98,7 @@ pub fn signed(
     let mut count = [0u8; 256];
     let mut ends = [0u16; 256];
     let mut sizes = [0u8; 256];
-    let s = octets::slice(p, 20, n - 20);
+    let s = runs::slice(p, 20, n - 20);
     let f = survey::survey(s, p[0], &mut count, &mut ends, &mut sizes);
     let v = rules::check(
         p,

@@ -27,7 +27,7 @@ fn matches(
     requires { ⌜ Surveyed (areaOf (now q)) (codeOf (now q)) f (now count) (now ends) (now sizes) ⌝ }
     ensures { λ r. ⌜ r ≡ matchesIn (areaOf (now (q .entry))) (now (t .entry)) k ⌝ }
 {
-    let s = octets::slice(q, 20, n - 20);
+    let s = runs::slice(q, 20, n - 20);
     let c = effects::criteria(count, ends, sizes);
     marking::match_slot(t, k, s, c)
 }

@@ -66,7 +66,7 @@ pub fn judge(
     let mut count = [0u8; 256];
     let mut ends = [0u16; 256];
     let mut sizes = [0u8; 256];
-    let s = octets::slice(p, 20, n - 20);
+    let s = runs::slice(p, 20, n - 20);
     let f = survey::survey(s, p[0], &mut count, &mut ends, &mut sizes);
     let v = rules::check(
         p,

@@ -48,5 +48,5 @@ pub fn value_of<'a>(s: &'a [u8], ends: &[u16; 256], sizes: &[u8; 256], kind: u8)
 {
     let end = wide16(ends[kind as usize]);
     let size = wide8(sizes[kind as usize]);
-    octets::slice(s, less(end, size) + 2, less(size, 2))
+    runs::slice(s, less(end, size) + 2, less(size, 2))
 }

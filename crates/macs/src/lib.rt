@@ -31,7 +31,7 @@ pub fn mac_right(p: &[u8], n: usize, auth: &[u8], at: usize, secret: &[u8]) -> b
     ensures { λ r. ⌜ r ≡ equalBytes (part at 16 (now (p .entry))) (messageAuthenticator (now (auth .entry)) (now (p .entry)) n at (now (secret .entry))) ⌝ }
 {
     let d = message_authenticator(p, n, auth, at, secret);
-    octets::equal16(p, at, &d, 0)
+    runs::equal16(p, at, &d, 0)
 }
 
 fn wide(x: u16) -> usize

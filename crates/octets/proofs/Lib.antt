@@ -1,5 +1,4 @@
 pub mod Write
-pub mod Loops
 pub mod Part
 pub mod Numbers
 pub mod Equality

@@ -40,7 +40,7 @@ pub fn form(p: &[u8]) -> u8
     }
     let n = sized(p);
     if request_code(p[0]) {
-        if attributes::tiles(octets::slice(p, 20, n - 20)) {
+        if attributes::tiles(runs::slice(p, 20, n - 20)) {
             return 0;
         }
         return 3;

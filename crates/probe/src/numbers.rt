@@ -4,7 +4,7 @@ ghost use mathlib.Core.Bool.{cond};
 ghost use Rattle.octets.specs.Numbers.{be, beBytes};
 ghost use Rattle.octets.specs.Runs.{write};
 ghost use Rattle.probe.specs.Probe.{answer, written, numberOk, putOk};
-use crate::runs::lies_in;
+use crate::bytes::lies_in;
 
 // Reads a number of width bytes at a place.
 #[no_mangle]

@@ -27,8 +27,8 @@ pub fn write_reply(
     ensures { λ r. ⌜ now (reply .exit) ≡ write (now (reply .entry)) 0 (replyOf (now (secret .entry)) (now (p .entry)) cause) ⌝ }
     ensures { λ r. ⌜ r ≡ replyLength (now (p .entry)) cause ⌝ }
 {
-    let s = octets::slice(p, 20, n - 20);
-    let auth = octets::slice(p, 4, 16);
+    let s = runs::slice(p, 20, n - 20);
+    let auth = runs::slice(p, 4, 16);
     let present = lookup::has(count, 80);
     let body = reply::put_body(&mut *reply, s, p[0], cause, f, count, ends, sizes);
     let e = frames::put_room(&mut *reply, body, present);

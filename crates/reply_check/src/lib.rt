@@ -43,7 +43,7 @@ fn authentic(p: &[u8], n: usize, auth: &[u8], secret: &[u8]) -> bool
     ensures { λ r. ⌜ r ≡ equalBytes (part 4 16 (now (p .entry))) (authenticator (now (auth .entry)) (now (p .entry)) n (now (secret .entry))) ⌝ }
 {
     let d = signing::authenticator(p, n, auth, secret);
-    octets::equal16(p, 4, &d, 0)
+    runs::equal16(p, 4, &d, 0)
 }
 
 // V3 to V6: neither V1 nor V2 applies, n is the reply's Length, and one pass told the rest of its attributes.
@@ -67,7 +67,7 @@ fn mismatch(
     if wrong_identifier(q[1], r[1]) {
         return 4;
     }
-    let auth = octets::slice(q, 4, 16);
+    let auth = runs::slice(q, 4, 16);
     if authentic(r, n, auth, secret) {
         if macs::bad_mac(r, n, auth, secret, f, count, ends, sizes) {
             return 6;
@@ -88,7 +88,7 @@ fn failure(secret: &[u8], request: &[u8], reply: &[u8]) -> u8
         return 2;
     }
     let n = packets::sized(reply);
-    let s = octets::slice(reply, 20, n - 20);
+    let s = runs::slice(reply, 20, n - 20);
     let mut count = [0u8; 256];
     let mut ends = [0u16; 256];
     let mut sizes = [0u8; 256];

@@ -100,7 +100,7 @@ fn scanned(
     requires { ⌜ (now count ≡ zeros) × (now ends ≡ zeros) × (now sizes ≡ zeros) ⌝ }
     ensures { λ r. ⌜ Told address (now (name .entry)) n (now (q .entry)) (now (count .exit)) (now (ends .exit)) (now (sizes .exit)) r ⌝ }
 {
-    let s = octets::slice(q, 20, n - 20);
+    let s = runs::slice(q, 20, n - 20);
     let f = survey::survey(s, q[0], &mut *count, &mut *ends, &mut *sizes);
     judged(s, n, q, address, name, f, &*count, &*ends, &*sizes)
 }

@@ -40,7 +40,7 @@ pub fn check(
         if macs::bad_request_mac(p, n, secret, f, count, ends, sizes) {
             return Verdict::Discarded(5);
         }
-        let s = octets::slice(p, 20, n - 20);
+        let s = runs::slice(p, 20, n - 20);
         match stamps::stamp_of(s, p[0], f, count, ends, sizes) {
             stamps::Stamp::Unusable => {
                 return Verdict::Discarded(6);
@@ -65,7 +65,7 @@ fn check_signed(p: &[u8], n: usize, secret: &[u8], address: u32, name: &[u8], cl
     let mut count = [0u8; 256];
     let mut ends = [0u16; 256];
     let mut sizes = [0u8; 256];
-    let s = octets::slice(p, 20, n - 20);
+    let s = runs::slice(p, 20, n - 20);
     let f = survey::survey(s, p[0], &mut count, &mut ends, &mut sizes);
     check(
         p,

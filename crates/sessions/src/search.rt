@@ -13,7 +13,7 @@ fn has_id(t: &[u8], k: usize, id: &[u8]) -> bool
     if !slots::is_live(s) {
         return false;
     }
-    octets::equal(id, slots::text_at(s, 82))
+    runs::equal(id, slots::text_at(s, 82))
 }
 
 // Whether one of the first n slots is.

@@ -11,8 +11,8 @@ pub fn front(buf: &mut [u8], p: &[u8], auth: &[u8])
     requires { ⌜ (length (now buf) ≡ 64) × (20 ≤ length (now p)) × (length (now auth) ≡ 16) ⌝ }
     ensures { λ _. ⌜ now (buf .exit) ≡ write (now (buf .entry)) 0 (take 4 (now (p .entry)) ++ now (auth .entry)) ⌝ }
 {
-    octets::copy(&mut *buf, 0, &p[..4]);
-    octets::copy(buf, 4, &auth[..16]);
+    runs::copy(&mut *buf, 0, &p[..4]);
+    runs::copy(buf, 4, &auth[..16]);
 }
 
 // The authenticator of a packet: auth is the request's authenticator for a reply.
@@ -42,5 +42,5 @@ pub fn request_signed(p: &[u8], n: usize, secret: &[u8]) -> bool
     ensures { λ r. ⌜ r ≡ equalBytes (part 4 16 (now (p .entry))) (authenticator zeros (now (p .entry)) n (now (secret .entry))) ⌝ }
 {
     let d = request_authenticator(p, n, secret);
-    octets::equal16(p, 4, &d, 0)
+    runs::equal16(p, 4, &d, 0)
 }

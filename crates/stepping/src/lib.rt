@@ -102,7 +102,7 @@ fn stepped(s: Scheduler, j: usize, t: &mut [u8], reply: &mut [u8], store: &[u8])
     ensures { λ r. ⌜ now (reply .exit) ≡ replyAfter (settingsOf s .secret) (partOf j (now (store .entry))) (now (reply .entry)) (movedOf s j (now (t .entry)) (now (store .entry)) .ending) ⌝ }
     ensures { λ r. ⌜ Ours (r .scheduler) ⌝ }
 {
-    let q = octets::slice(store, j * 4096, 4096);
+    let q = runs::slice(store, j * 4096, 4096);
     let m = worked(s, j, q, t, reply);
     settled(s, j, m)
 }

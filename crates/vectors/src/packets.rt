@@ -72,7 +72,7 @@ fn told(a: answers::Answer) -> usize {
 fn changed(before: &[u8], t: &[u8], k: usize) {
     let was = slots::slot_of(before, k);
     let is = slots::slot_of(t, k);
-    if !octets::equal(was, is) {
+    if !runs::equal(was, is) {
         number(b" slot ", k as u64);
         word(b" ");
         hex(is);
@@ -123,7 +123,7 @@ pub fn run(name: &[u8], packet: &[u8]) {
     ));
     if n > 0 {
         word(b" reply ");
-        hex(octets::slice(&reply, 0, n));
+        hex(runs::slice(&reply, 0, n));
     }
     changed(&before, &t, 0);
     changed(&before, &t, 1);

@@ -31,7 +31,7 @@ pub fn write(name: &[u8], code: u32, given: &[u8], add: bool) {
     match requests::write_request(code, 7, given, add, b"xyzzy", &mut out) {
         requests::Written::Done(n) => {
             word(b" answer 0 packet ");
-            hex(octets::slice(&out, 0, n));
+            hex(runs::slice(&out, 0, n));
         }
         requests::Written::NotWritten(r) => {
             answer(wide(r));

@@ -1,13 +1,13 @@
--- `octets::copy` meets its contract: after each eight bytes the first j are written, and the rest goes behind them.
+-- `runs::copy` meets its contract: after each eight bytes the first j are written, and the rest goes behind them.
 -- Assumes nothing.
 use Prim.Native.Nat.{_≤_, _-_}
 use mathlib.Core.Path.{_≡_}
 use borrow.Author.Needs.{needs}
 use lib.ListN.{length, take}
-use Rattle.octets.proofs.Loops.{copy-none, copy-part, copy-rest}
+use Rattle.runs.proofs.Loops.{copy-none, copy-part, copy-rest}
 use Rattle.octets.specs.Runs.{write}
-use Rattle.octets.proofs.copy.Statement.{statement}
-use Rattle.octets.proofs.copy.Tie as tie
+use Rattle.runs.proofs.copy.Statement.{statement}
+use Rattle.runs.proofs.copy.Tie as tie
 
 abbrev Inv-loop : tie.InvT-loop
 Inv-loop t₀ at v j₀ t j = (j ≤ length v) × (length t ≡ length t₀) × (t ≡ write t₀ at (take j v))

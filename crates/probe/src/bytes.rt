@@ -22,7 +22,7 @@ pub fn lies_in(len: usize, at: usize, n: usize) -> bool
 pub extern "C" fn probe_equal(a: &[u8], b: &[u8]) -> u32
     ensures { λ r. ⌜ r ≡ cond (equalBytes (now (a .entry)) (now (b .entry))) 1 0 ⌝ }
 {
-    if octets::equal(a, b) {
+    if runs::equal(a, b) {
         return 1;
     }
     0
@@ -39,7 +39,7 @@ pub extern "C" fn probe_equal16(a: &[u8], b: &[u8]) -> u32
     if b.len() != 16 {
         return 2;
     }
-    if octets::equal16(a, 0, b, 0) {
+    if runs::equal16(a, 0, b, 0) {
         return 1;
     }
     0
@@ -52,7 +52,7 @@ pub extern "C" fn probe_copy(t: &mut [u8], at: usize, v: &[u8]) -> u32
     ensures { λ r. ⌜ now (t .exit) ≡ written (inside at (length (now (v .entry))) (now (t .entry))) (write (now (t .entry)) at (now (v .entry))) (now (t .entry)) ⌝ }
 {
     if lies_in(t.len(), at, v.len()) {
-        octets::copy(t, at, v);
+        runs::copy(t, at, v);
         return 0;
     }
     1
@@ -65,7 +65,7 @@ pub extern "C" fn probe_fill(t: &mut [u8], at: usize, count: usize, x: u8) -> u3
     ensures { λ r. ⌜ now (t .exit) ≡ written (inside at count (now (t .entry))) (write (now (t .entry)) at (replicate count x)) (now (t .entry)) ⌝ }
 {
     if lies_in(t.len(), at, count) {
-        octets::fill(t, at, count, x);
+        runs::fill(t, at, count, x);
         return 0;
     }
     1

@@ -1,9 +1,9 @@
--- `probe::runs::probe_equal` meets its contract: it says what the comparison says.
+-- `probe::bytes::probe_equal` meets its contract: it says what the comparison says.
 -- Assumes nothing.
 use borrow.Author.Needs.{needs}
 use Rattle.probe.proofs.Answers.{says-same, says-other}
-use Rattle.probe.proofs.runs.probe_equal.Statement.{statement}
-use Rattle.probe.proofs.runs.probe_equal.Tie as tie
+use Rattle.probe.proofs.bytes.probe_equal.Statement.{statement}
+use Rattle.probe.proofs.bytes.probe_equal.Tie as tie
 
 returns : tie.Need-returns
 returns c = search (needs, says-same)

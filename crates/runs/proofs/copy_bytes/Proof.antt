@@ -1,13 +1,13 @@
--- `octets::copy_bytes` meets its contract: after j turns the first j bytes are written.
+-- `runs::copy_bytes` meets its contract: after j turns the first j bytes are written.
 -- Assumes nothing.
 use borrow.Author.Needs.{needs}
 use lib.ListN.{length, take}
 use mathlib.Core.Path.{_≡_}
 use Prim.Native.Nat.{_≤_, _-_}
-use Rattle.octets.proofs.Loops.{copy-none, copy-byte, copy-all}
+use Rattle.runs.proofs.Loops.{copy-none, copy-byte, copy-all}
 use Rattle.octets.specs.Runs.{write}
-use Rattle.octets.proofs.copy_bytes.Statement.{statement}
-use Rattle.octets.proofs.copy_bytes.Tie as tie
+use Rattle.runs.proofs.copy_bytes.Statement.{statement}
+use Rattle.runs.proofs.copy_bytes.Tie as tie
 
 abbrev Inv-loop : tie.InvT-loop
 Inv-loop t₀ at v j₀ t j = (j ≤ length v) × (length t ≡ length t₀) × (t ≡ write t₀ at (take j v))

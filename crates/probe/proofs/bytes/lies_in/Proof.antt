@@ -1,9 +1,9 @@
--- `probe::runs::lies_in` meets its contract: the sum is compared without being made.
+-- `probe::bytes::lies_in` meets its contract: the sum is compared without being made.
 -- Assumes nothing.
 use borrow.Author.Needs.{needs}
 use Rattle.probe.proofs.Answers.{lies-past, lies-rest}
-use Rattle.probe.proofs.runs.lies_in.Statement.{statement}
-use Rattle.probe.proofs.runs.lies_in.Tie as tie
+use Rattle.probe.proofs.bytes.lies_in.Statement.{statement}
+use Rattle.probe.proofs.bytes.lies_in.Tie as tie
 
 returns : tie.Need-returns
 returns c = search (needs, lies-past)

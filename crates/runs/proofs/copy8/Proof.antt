@@ -1,10 +1,10 @@
--- `octets::copy8` meets its contract: two writes of four bytes are one of the eight bytes read.
+-- `runs::copy8` meets its contract: two writes of four bytes are one of the eight bytes read.
 -- Assumes nothing.
 use borrow.Author.Needs.{needs}
 use native.Mathlib.Omega.{arith}
-use Rattle.octets.proofs.Loops.{store-eight}
-use Rattle.octets.proofs.copy8.Statement.{statement}
-use Rattle.octets.proofs.copy8.Tie as tie
+use Rattle.runs.proofs.Loops.{store-eight}
+use Rattle.runs.proofs.copy8.Statement.{statement}
+use Rattle.runs.proofs.copy8.Tie as tie
 
 returns : tie.Need-returns
 returns c = search (needs, store-eight)

@@ -1,13 +1,13 @@
--- `octets::fill` meets its contract: after j turns j bytes are written.
+-- `runs::fill` meets its contract: after j turns j bytes are written.
 -- Assumes nothing.
 use borrow.Author.Needs.{needs}
 use mathlib.Core.Path.{_≡_}
 use Prim.Native.Nat.{_≤_, _-_}
 use lib.ListN.{length, replicate}
 use Rattle.octets.specs.Runs.{write}
-use Rattle.octets.proofs.Loops.{fill-none, fill-byte, fill-all}
-use Rattle.octets.proofs.fill.Statement.{statement}
-use Rattle.octets.proofs.fill.Tie as tie
+use Rattle.runs.proofs.Loops.{fill-none, fill-byte, fill-all}
+use Rattle.runs.proofs.fill.Statement.{statement}
+use Rattle.runs.proofs.fill.Tie as tie
 
 abbrev Inv-loop : tie.InvT-loop
 Inv-loop t₀ at n x j₀ t j = (j ≤ n) × (length t ≡ length t₀) × (t ≡ write t₀ at (replicate j x))

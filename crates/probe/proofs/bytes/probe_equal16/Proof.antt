@@ -1,9 +1,9 @@
--- `probe::runs::probe_equal16` meets its contract: 16 bytes are the whole of each run.
+-- `probe::bytes::probe_equal16` meets its contract: 16 bytes are the whole of each run.
 -- Assumes nothing.
 use borrow.Author.Needs.{needs}
 use Rattle.probe.proofs.Answers.{first-room, second-room, both-rooms, whole-runs, says-same, says-other}
-use Rattle.probe.proofs.runs.probe_equal16.Statement.{statement}
-use Rattle.probe.proofs.runs.probe_equal16.Tie as tie
+use Rattle.probe.proofs.bytes.probe_equal16.Statement.{statement}
+use Rattle.probe.proofs.bytes.probe_equal16.Tie as tie
 
 returns : tie.Need-returns
 returns c = search (needs, first-room)
