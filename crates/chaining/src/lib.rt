@@ -40,6 +40,6 @@ pub fn is_authenticator(words: [u32; 4], q: &[u8]) -> bool
     requires { ⌜ 20 ≤ length (now q) ⌝ }
     ensures { λ r. ⌜ r ≡ equalBytes (authOf (now (q .entry))) (output (hashState words)) ⌝ }
 {
-    let d = digest::bytes_of(state_of(words));
+    let d = endings::bytes_of(state_of(words));
     runs::equal16(q, 4, &d, 0)
 }

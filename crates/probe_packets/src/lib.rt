@@ -85,7 +85,7 @@ fn by_blocks(p: &[u8], n: usize, secret: &[u8]) -> [u8; 16]
         q = blockwise::hash_block(q, p, n, secret, k);
         k += 1;
     }
-    digest::bytes_of(q)
+    endings::bytes_of(q)
 }
 
 // The authenticator of a request of Length n, worked out block by block.

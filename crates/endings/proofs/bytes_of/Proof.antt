@@ -1,9 +1,9 @@
--- `digest::bytes_of` meets its contract: four words, one behind the other, fill the sixteen bytes.
+-- `endings::bytes_of` meets its contract: four words, one behind the other, fill the sixteen bytes.
 -- Assumes nothing.
 use borrow.Author.Needs.{needs}
-use Rattle.digest.proofs.Endings.{words-law}
-use Rattle.digest.proofs.bytes_of.Statement.{statement}
-use Rattle.digest.proofs.bytes_of.Tie as tie
+use Rattle.endings.proofs.Written.{words-law}
+use Rattle.endings.proofs.bytes_of.Statement.{statement}
+use Rattle.endings.proofs.bytes_of.Tie as tie
 
 returns : tie.Need-returns
 returns c = search (needs, words-law)

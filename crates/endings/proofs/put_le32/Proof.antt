@@ -1,8 +1,8 @@
--- `digest::put_le32` meets its contract: the four bytes are the definition's at width 4.
+-- `endings::put_le32` meets its contract: the four bytes are the definition's at width 4.
 -- Assumes nothing.
 use borrow.Author.Needs.{needs}
-use Rattle.digest.proofs.put_le32.Statement.{statement}
-use Rattle.digest.proofs.put_le32.Tie as tie
+use Rattle.endings.proofs.put_le32.Statement.{statement}
+use Rattle.endings.proofs.put_le32.Tie as tie
 
 returns : tie.Need-returns
 returns c = search needs

@@ -1,9 +1,9 @@
--- `digest::put_end` meets its contract: the zeros end where the count begins.
+-- `endings::put_end` meets its contract: the zeros end where the count begins.
 -- Assumes nothing.
 use borrow.Author.Needs.{needs}
-use Rattle.digest.proofs.Endings.{ended}
-use Rattle.digest.proofs.put_end.Statement.{statement}
-use Rattle.digest.proofs.put_end.Tie as tie
+use Rattle.endings.proofs.Written.{ended}
+use Rattle.endings.proofs.put_end.Statement.{statement}
+use Rattle.endings.proofs.put_end.Tie as tie
 
 returns : tie.Need-returns
 returns c = search (needs, ended)

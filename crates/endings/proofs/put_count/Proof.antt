@@ -1,9 +1,9 @@
--- `digest::put_count` meets its contract: two words are eight bytes, and no bit of the count that they hold is lost.
+-- `endings::put_count` meets its contract: two words are eight bytes, and no bit of the count that they hold is lost.
 -- Assumes nothing.
 use borrow.Author.Needs.{needs}
-use Rattle.digest.proofs.Endings.{count-law}
-use Rattle.digest.proofs.put_count.Statement.{statement}
-use Rattle.digest.proofs.put_count.Tie as tie
+use Rattle.endings.proofs.Written.{count-law}
+use Rattle.endings.proofs.put_count.Statement.{statement}
+use Rattle.endings.proofs.put_count.Tie as tie
 
 returns : tie.Need-returns
 returns c = search (needs, count-law)

@@ -1,9 +1,9 @@
--- `digest::put_mark` meets its contract: a store is a write of one byte.
+-- `endings::put_mark` meets its contract: a store is a write of one byte.
 -- Assumes nothing.
 use borrow.Author.Needs.{needs}
 use Rattle.octets.proofs.Write.{write-one}
-use Rattle.digest.proofs.put_mark.Statement.{statement}
-use Rattle.digest.proofs.put_mark.Tie as tie
+use Rattle.endings.proofs.put_mark.Statement.{statement}
+use Rattle.endings.proofs.put_mark.Tie as tie
 
 returns : tie.Need-returns
 returns c = search (needs, write-one)
