@@ -19,12 +19,13 @@ echo 'Fumbokeri: the receiving side of RADIUS Dynamic Authorization, proved.'
 echo
 echo 'First the proofs. From nothing they take some minutes.'
 echo
-tests/proved.sh rt check vectors vectors_requests || exit 1
+tests/proved.sh rt check vectors vectors_packets vectors_requests || exit 1
 tests/proved.sh rt staticlib capi || exit 1
 echo
 echo 'Then the proved code, run on the examples that the RFCs print, on stored packets, requests and replies.'
 echo
 shown target/bin/vectors crates/vectors/stdout
+shown target/bin/vectors_packets crates/vectors_packets/stdout
 shown target/bin/vectors_requests crates/vectors_requests/stdout
 echo 'All as in the RFCs and as the second implementation answers.'
 echo

@@ -6,9 +6,8 @@ import stored_requests
 
 def files(probe, tally):
     tally.same(sample_requests.PLACE.read_text(), sample_requests.header(), "samples/requests.h, by tests/sample_requests.py")
-    tally.same(stored_packets.SOURCE.read_text(), stored_packets.source(), "crates/vectors/src/stored.rt, by tests/stored_packets.py")
-    written = stored_packets.others() + stored_packets.lines()
-    tally.same(stored_packets.STDOUT.read_text(), written, "crates/vectors/stdout, by tests/stored_packets.py")
+    tally.same(stored_packets.SOURCE.read_text(), stored_packets.source(), "crates/vectors_packets/src/stored.rt, by tests/stored_packets.py")
+    tally.same(stored_packets.STDOUT.read_text(), stored_packets.lines(), "crates/vectors_packets/stdout, by tests/stored_packets.py")
     tally.same(stored_requests.SOURCE.read_text(), stored_requests.source(), "crates/vectors_requests/src/stored.rt, by tests/stored_requests.py")
     tally.same(stored_requests.STDOUT.read_text(), stored_requests.lines(), "crates/vectors_requests/stdout, by tests/stored_requests.py")
 

@@ -1,5 +1,5 @@
-"""The packets that the program `vectors` runs through the handler: python3 tests/stored_packets.py writes crates/vectors/src/stored.rt
-and the lines of crates/vectors/stdout that tell of them, as the second implementation has them."""
+"""The packets that the program `vectors_packets` runs through the handler: python3 tests/stored_packets.py writes its src/stored.rt
+and its stdout, as the second implementation has it."""
 from pathlib import Path
 
 import handle_model
@@ -8,10 +8,10 @@ from packet_model import Gate
 from packets import CLOCK, COA, DISCONNECT, MAC, attribute, flipped, request, stamp
 from table_model import number
 
-CRATE = Path(__file__).parent.parent / "crates" / "vectors"
+CRATE = Path(__file__).parent.parent / "crates" / "vectors_packets"
 SOURCE, STDOUT = CRATE / "src" / "stored.rt", CRATE / "stdout"
 
-# As in crates/vectors/src/packets.rt
+# As in crates/vectors_packets/src/main.rt
 GATE = Gate(b"xyzzy", 0xC0000207, b"g")
 SESSIONS = [
     {"port": 7, "address": 0x0A000007, "timeout": 65000, "idle": 600, "user": b"ann", "id": b"4F", "station": b"02", "filter": b"day"},
@@ -68,7 +68,7 @@ def called(name, packet):
 
 
 def source():
-    text = "// The stored packets: written by tests/stored_packets.py.\nuse crate::packets::run;\n"
+    text = "// The stored packets: written by tests/stored_packets.py.\nuse crate::run;\n"
     for group, cases in GROUPS.items():
         text += f"\npub fn {group}() {{\n" + "".join(called(*case) for case in cases) + "}\n"
     return text
@@ -92,11 +92,6 @@ def lines():
     return f"Table{slots(bytes(384), TABLE)}\n" + "".join(line(*case) for cases in GROUPS.values() for case in cases)
 
 
-def others():
-    """The lines of the RFCs' vectors, which stand before."""
-    return "".join(text for text in STDOUT.read_text().splitlines(True) if not text.startswith(("Table ", "Packet ")))
-
-
 if __name__ == "__main__":
-    STDOUT.write_text(others() + lines())
+    STDOUT.write_text(lines())
     SOURCE.write_text(source())

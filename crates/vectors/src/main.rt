@@ -1,7 +1,4 @@
-// The vectors of RFC 1321, A.5, and of RFC 2202, 2, one line each: its name and its digest. Then stored packets.
-mod packets; // packets.rt: a packet through the handler
-mod stored; // stored.rt: the packets
-
+// The vectors of RFC 1321, A.5, and of RFC 2202, 2, one line each: its name and its digest.
 ghost use mathlib.Core.Path.{_≡_};
 ghost use Prim.Native.Nat.{_<_};
 ghost use lib.ListN.{length};
@@ -123,8 +120,4 @@ fn hmac_suite() {
 fn main() {
     md5_suite();
     hmac_suite();
-    packets::start();
-    stored::discards();
-    stored::naks();
-    stored::acks();
 }

@@ -1,5 +1,5 @@
 // The stored packets: written by tests/stored_packets.py.
-use crate::packets::run;
+use crate::run;
 
 pub fn discards() {
     run(

@@ -1,4 +1,4 @@
--- `vectors::packets::unsigned` is safe: only a number that is not negative is cast, and 64 bits hold it.
+-- `vectors_packets::unsigned` is safe: only a number that is not negative is cast, and 64 bits hold it.
 -- Assumes nothing.
 use borrow.Author.Needs.{needs}
 use mathlib.Core.Path.{sym, subst}
@@ -10,8 +10,8 @@ use lib.Signed.{leZ-yes, yes-nonNeg, natAbs-le}
 use mir.Syntax.{w64}
 use mir.Val.{SFits, toZ, ofZ}
 use mir.ValLaws.{toZ-ofZ}
-use Rattle.vectors.proofs.packets.unsigned.Statement.{statement}
-use Rattle.vectors.proofs.packets.unsigned.Tie as tie
+use Rattle.vectors_packets.proofs.unsigned.Statement.{statement}
+use Rattle.vectors_packets.proofs.unsigned.Tie as tie
 
 -- the bits of k read back as k, which is at most half of the width's power
 reads : (k : ℤ) → SFits w64 k → natAbs (toZ w64 (ofZ w64 k)) ≤ 9223372036854775808

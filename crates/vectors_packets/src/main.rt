@@ -1,4 +1,6 @@
 // Stored packets through the handler, a line each: name, answer, sessions changed, skew, reply, and the slots that changed.
+mod stored; // stored.rt: the packets
+
 ghost use Prim.Native.Nat.{_≤_, _<_};
 use libc::STDOUT_FILENO;
 
@@ -98,7 +100,7 @@ fn table() -> [u8; 384] {
 }
 
 // The table that each packet finds.
-pub fn start() {
+fn start() {
     let none = [0u8; 384];
     let t = table();
     word(b"Table");
@@ -128,4 +130,11 @@ pub fn run(name: &[u8], packet: &[u8]) {
     changed(&before, &t, 0);
     changed(&before, &t, 1);
     word(b"\n");
+}
+
+fn main() {
+    start();
+    stored::discards();
+    stored::naks();
+    stored::acks();
 }

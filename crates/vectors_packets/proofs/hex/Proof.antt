@@ -1,11 +1,11 @@
--- `vectors::packets::hex` is safe and ends: i stays within the run.
+-- `vectors_packets::hex` is safe and ends: i stays within the run.
 -- Assumes nothing.
 use borrow.Author.Needs.{needs}
 use lib.ListN.{length}
 use Prim.Native.Nat.{_≤_, _-_}
 use mathlib.Core.Path.{_≡_}
-use Rattle.vectors.proofs.packets.hex.Statement.{statement}
-use Rattle.vectors.proofs.packets.hex.Tie as tie
+use Rattle.vectors_packets.proofs.hex.Statement.{statement}
+use Rattle.vectors_packets.proofs.hex.Tie as tie
 
 abbrev Inv-loop : tie.InvT-loop
 Inv-loop s i₀ i-end i = (i ≤ i-end) × (i-end ≡ length s)
