@@ -14,14 +14,14 @@ fn lay(buf: &mut [u8], s: usize, at: usize, v: &[u8])
     ensures { λ _. ⌜ ((m : List ℕ) → length m ≡ at → now (buf .entry) ≡ window s m → now (buf .exit) ≡ window s (m ++ now (v .entry))) ⌝ }
 {
     if at < s {
-        runs::copy(buf, 0, runs::slice(v, s - at, 64));
+        copies::copy(buf, 0, runs::slice(v, s - at, 64));
         return;
     }
     let i = at - s;
     if 64 <= i {
         return;
     }
-    runs::copy(buf, i, runs::slice(v, 0, 64 - i));
+    copies::copy(buf, i, runs::slice(v, 0, 64 - i));
 }
 
 // The packet up to Length, with zeros in the authenticator's place.

@@ -52,7 +52,7 @@ pub fn end_slot(t: &mut [u8], k: usize)
     requires { ⌜ (k + 1) * 192 ≤ length (now t) ⌝ }
     ensures { λ _. ⌜ now (t .exit) ≡ write (now (t .entry)) (k * 192) (replicate 192 0) ⌝ }
 {
-    runs::fill(t, k * 192, 192, 0);
+    copies::fill(t, k * 192, 192, 0);
 }
 
 // Ends or alters slot k.

@@ -14,7 +14,7 @@ fn aligned(buf: &mut [u8], q: State, s: &[u8]) -> State
 {
     let r = md5::blocks(q, s);
     let e = s.len() / 64 * 64;
-    runs::copy(buf, 0, &s[e..]);
+    copies::copy(buf, 0, &s[e..]);
     r
 }
 
@@ -29,10 +29,10 @@ pub fn update(buf: &mut [u8], q: State, n: usize, s: &[u8]) -> State
     }
     let j = 64 - f;
     if s.len() < j {
-        runs::copy(buf, f, s);
+        copies::copy(buf, f, s);
         return q;
     }
-    runs::copy(&mut *buf, f, &s[..j]);
+    copies::copy(&mut *buf, f, &s[..j]);
     let r = md5::blocks(q, &*buf);
     aligned(buf, r, &s[j..])
 }
@@ -48,7 +48,7 @@ pub fn finish(buf: &mut [u8], q: State, n: usize) -> [u8; 16]
         endings::put_end(&mut *buf, f + 1, n);
         return endings::bytes_of(md5::blocks(q, &*buf));
     }
-    runs::fill(&mut *buf, f + 1, 63 - f, 0);
+    copies::fill(&mut *buf, f + 1, 63 - f, 0);
     let r = md5::blocks(q, &*buf);
     endings::put_end(&mut *buf, 0, n);
     endings::bytes_of(md5::blocks(r, &*buf))

@@ -52,7 +52,7 @@ pub fn put_end(buf: &mut [u8], at: usize, n: usize)
     requires { ⌜ (length (now buf) ≡ 64) × (at ≤ 56) ⌝ }
     ensures { λ _. ⌜ now (buf .exit) ≡ write (now (buf .entry)) at (replicate (56 - at) 0 ++ leBytes 8 (n * 8)) ⌝ }
 {
-    runs::fill(&mut *buf, at, 56 - at, 0);
+    copies::fill(&mut *buf, at, 56 - at, 0);
     put_count(buf, n);
 }
 

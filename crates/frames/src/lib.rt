@@ -17,7 +17,7 @@ pub fn put(t: &mut [u8], to: usize, kind: u8, size: u8, v: &[u8]) -> usize
 {
     t[to] = kind;
     t[to + 1] = size;
-    runs::copy(t, to + 2, v);
+    copies::copy(t, to + 2, v);
     to + 2 + v.len()
 }
 
@@ -42,5 +42,5 @@ pub fn put_front(t: &mut [u8], code: u8, identifier: u8, n: usize, auth: &[u8])
     t[0] = code;
     t[1] = identifier;
     octets::put_be16(&mut *t, 2, n as u16);
-    runs::copy(t, 4, auth);
+    copies::copy(t, 4, auth);
 }

@@ -15,7 +15,7 @@ fn put_mac(t: &mut [u8], n: usize, auth: &[u8], secret: &[u8], present: bool)
     if present {
         let at = n - 16;
         let d = macs::message_authenticator(&*t, n, auth, at, secret);
-        runs::copy(t, at, &d);
+        copies::copy(t, at, &d);
         return;
     }
 }
@@ -26,7 +26,7 @@ fn put_authenticator(t: &mut [u8], n: usize, auth: &[u8], secret: &[u8])
     ensures { λ _. ⌜ now (t .exit) ≡ write (now (t .entry)) 4 (authenticator (now (auth .entry)) (now (t .entry)) n (now (secret .entry))) ⌝ }
 {
     let d = signing::authenticator(&*t, n, auth, secret);
-    runs::copy(t, 4, &d);
+    copies::copy(t, 4, &d);
 }
 
 // Both: the Message-Authenticator is worked out before the authenticator.

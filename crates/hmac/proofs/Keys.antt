@@ -10,7 +10,7 @@ use borrow.Author.Tests.{lt-ltb, le-ltb}
 use lib.Bits.{bitXor, xor-zero-l}
 use lib.ListN.{length, getD, set, take, drop, replicate, length-append, length-map, length-replicate}
 use Rattle.octets.specs.Runs.{write}
-use Rattle.runs.proofs.Loops.{copy-none, copy-byte, copy-all}
+use Rattle.copies.proofs.Loops.{copy-none, copy-byte, copy-all}
 use Rattle.octets.proofs.Write.{write-eq}
 use Rattle.md5.specs.Md5.{md5}
 use Rattle.md5.proofs.After.{length-md5}

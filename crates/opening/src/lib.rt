@@ -17,7 +17,7 @@ fn admit(s: Scheduler, j: usize, p: &[u8], n: usize, clock: u32, store: &mut [u8
     ensures { λ r. ⌜ r ≡ called (withJob s j (firstJob n clock)) (Opened j) ⌝ }
     ensures { λ r. ⌜ now (store .exit) ≡ write (now (store .entry)) (j * 4096) (take n (now (p .entry))) ⌝ }
 {
-    runs::copy(store, j * 4096, &p[..n]);
+    copies::copy(store, j * 4096, &p[..n]);
     let mut after = s;
     after.jobs[j] = jobs::first(n, clock);
     Called {

@@ -52,7 +52,7 @@ pub extern "C" fn probe_copy(t: &mut [u8], at: usize, v: &[u8]) -> u32
     ensures { λ r. ⌜ now (t .exit) ≡ written (inside at (length (now (v .entry))) (now (t .entry))) (write (now (t .entry)) at (now (v .entry))) (now (t .entry)) ⌝ }
 {
     if lies_in(t.len(), at, v.len()) {
-        runs::copy(t, at, v);
+        copies::copy(t, at, v);
         return 0;
     }
     1
@@ -65,7 +65,7 @@ pub extern "C" fn probe_fill(t: &mut [u8], at: usize, count: usize, x: u8) -> u3
     ensures { λ r. ⌜ now (t .exit) ≡ written (inside at count (now (t .entry))) (write (now (t .entry)) at (replicate count x)) (now (t .entry)) ⌝ }
 {
     if lies_in(t.len(), at, count) {
-        runs::fill(t, at, count, x);
+        copies::fill(t, at, count, x);
         return 0;
     }
     1

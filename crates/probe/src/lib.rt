@@ -19,7 +19,7 @@ pub extern "C" fn probe_md5(m: &[u8], out: &mut [u8]) -> u32
         return 1;
     }
     let d = digest::of(m);
-    runs::copy(out, 0, &d);
+    copies::copy(out, 0, &d);
     0
 }
 
@@ -33,7 +33,7 @@ pub extern "C" fn probe_hmac(key: &[u8], m: &[u8], out: &mut [u8]) -> u32
         return 1;
     }
     let d = hmac::of(key, m);
-    runs::copy(out, 0, &d);
+    copies::copy(out, 0, &d);
     0
 }
 
@@ -78,7 +78,7 @@ pub extern "C" fn probe_md5_cut(m: &[u8], a: usize, b: usize, out: &mut [u8]) ->
         return 1;
     }
     let d = md5_cut(m, a, b);
-    runs::copy(out, 0, &d);
+    copies::copy(out, 0, &d);
     0
 }
 
@@ -98,6 +98,6 @@ pub extern "C" fn probe_hmac_cut(key: &[u8], m: &[u8], a: usize, b: usize, out: 
         return 1;
     }
     let d = hmac_cut(key, m, a, b);
-    runs::copy(out, 0, &d);
+    copies::copy(out, 0, &d);
     0
 }

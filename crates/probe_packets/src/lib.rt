@@ -33,7 +33,7 @@ pub extern "C" fn probe_authenticator(
         return 1;
     }
     let d = signing::authenticator(p, n, auth, secret);
-    runs::copy(out, 0, &d);
+    copies::copy(out, 0, &d);
     0
 }
 
@@ -69,7 +69,7 @@ pub extern "C" fn probe_mac(
         return 1;
     }
     let d = macs::message_authenticator(p, n, auth, at, secret);
-    runs::copy(out, 0, &d);
+    copies::copy(out, 0, &d);
     0
 }
 
@@ -110,6 +110,6 @@ pub extern "C" fn probe_blocks(p: &[u8], n: usize, secret: &[u8], out: &mut [u8]
         return 1;
     }
     let d = by_blocks(p, n, secret);
-    runs::copy(out, 0, &d);
+    copies::copy(out, 0, &d);
     0
 }

@@ -50,6 +50,6 @@ pub extern "C" fn probe_table_marks(t: &[u8], p: &[u8], criteria: &[u8], marks: 
         return 1;
     }
     let m = marking::mark_all(t, p, given::criteria_of(criteria));
-    runs::copy(marks, 0, &m);
+    copies::copy(marks, 0, &m);
     0
 }

@@ -17,7 +17,7 @@ fn change_all(t: &mut [u8], p: &[u8], marks: &[u8], c: changes::Change) -> u32
     ensures { λ _. ⌜ now (t .exit) ≡ changeMarked (now (p .entry)) c (now (marks .entry)) (slotCount (now (t .entry))) (now (t .entry)) ⌝ }
 {
     let mut m = [0u8; 64];
-    runs::copy(&mut m, 0, marks);
+    copies::copy(&mut m, 0, marks);
     changes::change_marked(t, p, &m, c) as u32
 }
 

@@ -25,8 +25,8 @@ pub fn put_text(t: &mut [u8], at: usize, cap: usize, v: &[u8])
     let kept = runs::slice(v, 0, cap);
     let n = kept.len();
     t[at] = low(n);
-    runs::copy(&mut *t, at + 1, kept);
-    runs::fill(t, at + 1 + n, cap - n, 0);
+    copies::copy(&mut *t, at + 1, kept);
+    copies::fill(t, at + 1 + n, cap - n, 0);
 }
 
 // Whether the texts keep to the limits of the record.
@@ -75,7 +75,7 @@ fn put_texts(t: &mut [u8], at: usize, user: &[u8], id: &[u8], station: &[u8], fi
     put_text(&mut *t, at + 64, 32, id);
     put_text(&mut *t, at + 97, 32, station);
     put_text(&mut *t, at + 130, 32, filter);
-    runs::fill(t, at + 163, 11, 0);
+    copies::fill(t, at + 163, 11, 0);
 }
 
 // Writes the whole record of a session to slot k.

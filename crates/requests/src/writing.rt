@@ -105,7 +105,7 @@ pub fn put_request(
     ensures { λ r. ⌜ r ≡ requestLength (draft code identifier (now (given .entry)) «add») ⌝ }
 {
     let zero = [0u8; 16];
-    runs::copy(&mut *out, 20, given);
+    copies::copy(&mut *out, 20, given);
     let e = frames::put_room(&mut *out, 20 + given.len(), add);
     frames::put_front(&mut *out, code, identifier, e, &zero);
     put_seals(out, e, add, secret);

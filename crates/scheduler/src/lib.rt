@@ -49,9 +49,9 @@ fn fresh(secret: &[u8], address: u32, name: &[u8]) -> Scheduler
     ensures { λ r. ⌜ r ≡ madeOf (settings (now (secret .entry)) address (now (name .entry))) ⌝ }
 {
     let mut kept = [0u8; 64];
-    runs::copy(&mut kept, 0, secret);
+    copies::copy(&mut kept, 0, secret);
     let mut own = [0u8; 32];
-    runs::copy(&mut own, 0, name);
+    copies::copy(&mut own, 0, name);
     let free = jobs::free();
     Scheduler {
         jobs: [free; 4],

@@ -11,8 +11,8 @@ pub fn front(buf: &mut [u8], p: &[u8], auth: &[u8])
     requires { ⌜ (length (now buf) ≡ 64) × (20 ≤ length (now p)) × (length (now auth) ≡ 16) ⌝ }
     ensures { λ _. ⌜ now (buf .exit) ≡ write (now (buf .entry)) 0 (take 4 (now (p .entry)) ++ now (auth .entry)) ⌝ }
 {
-    runs::copy(&mut *buf, 0, &p[..4]);
-    runs::copy(buf, 4, &auth[..16]);
+    copies::copy(&mut *buf, 0, &p[..4]);
+    copies::copy(buf, 4, &auth[..16]);
 }
 
 // The authenticator of a packet: auth is the request's authenticator for a reply.

@@ -1,13 +1,13 @@
--- `runs::copy_bytes` meets its contract: after j turns the first j bytes are written.
+-- `copies::copy` meets its contract: after each eight bytes the first j are written, and the rest goes behind them.
 -- Assumes nothing.
+use Prim.Native.Nat.{_≤_, _-_}
+use mathlib.Core.Path.{_≡_}
 use borrow.Author.Needs.{needs}
 use lib.ListN.{length, take}
-use mathlib.Core.Path.{_≡_}
-use Prim.Native.Nat.{_≤_, _-_}
-use Rattle.runs.proofs.Loops.{copy-none, copy-byte, copy-all}
+use Rattle.copies.proofs.Loops.{copy-none, copy-part, copy-rest}
 use Rattle.octets.specs.Runs.{write}
-use Rattle.runs.proofs.copy_bytes.Statement.{statement}
-use Rattle.runs.proofs.copy_bytes.Tie as tie
+use Rattle.copies.proofs.copy.Statement.{statement}
+use Rattle.copies.proofs.copy.Tie as tie
 
 abbrev Inv-loop : tie.InvT-loop
 Inv-loop t₀ at v j₀ t j = (j ≤ length v) × (length t ≡ length t₀) × (t ≡ write t₀ at (take j v))
@@ -19,13 +19,13 @@ loop-holds : tie.Need-loop-holds Inv-loop μ-loop
 loop-holds c = search (needs, copy-none)
 
 loop-again : tie.Need-loop-again Inv-loop μ-loop
-loop-again c = search (needs, copy-byte)
+loop-again c = search (needs, copy-part)
 
 returns : tie.Need-returns Inv-loop μ-loop
-returns c = search (needs, copy-all)
+returns c = search (needs, copy-rest)
 
-pub copy-bytes-spec : {M : Type 1} → statement M
-copy-bytes-spec =
+pub copy-spec : {M : Type 1} → statement M
+copy-spec =
     tie.close
     (tie.spec
     Inv-loop
@@ -33,9 +33,14 @@ copy-bytes-spec =
     loop-holds
     (λ c. search needs)
     (λ c. search needs)
-    (λ c. search needs)
+    (λ c κs. search needs)
     (λ c. search needs)
     (λ c. search needs)
     loop-again
+    (λ c. search needs)
+    (λ c. search needs)
+    (λ c. search needs)
+    (λ c. search needs)
+    (λ c κs. search needs)
     (λ c. search needs)
     returns)
