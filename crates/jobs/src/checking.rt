@@ -32,13 +32,9 @@ impl Job {
         ensures { λ r. ⌜ r ≡ checkMove (settings (now (secret .entry)) address (now (name .entry))) self (now (q .entry)) ⌝ }
         ensures { λ r. ⌜ now (reply .exit) ≡ replyAfter (now (secret .entry)) (now (q .entry)) (now (reply .entry)) (r .ending) ⌝ }
     {
-        let n = self.length;
         let words = self.words;
-        if reread::holds(n, q) {
-            let right = chaining::is_authenticator(words, q);
-            let x = judging::judge(right, q, n, secret, address, name, self.clock, reply);
-            return checked(self, x);
-        }
-        crate::done(answers::Answer::Discarded(1))
+        let n = self.length;
+        let x = judging::check(words, q, n, secret, address, name, self.clock, reply);
+        checked(self, x)
     }
 }

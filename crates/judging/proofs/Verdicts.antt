@@ -18,7 +18,8 @@ use Rattle.answers.specs.declared.Answer as D
 use Rattle.answers.specs.declared.Answer.the-variants as A
 use Rattle.judging.specs.declared.Judged.{Judged}
 use Rattle.judging.specs.declared.Judged.the-variants.{Ended, Passed}
-use Rattle.judging.specs.Judged.{judgedAs, replyJudged}
+use Rattle.judging.specs.Judged.{judgedAs}
+use Rattle.judging.specs.Stored.{replyJudged}
 
 -- ---- the arms
 

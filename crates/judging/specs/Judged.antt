@@ -1,4 +1,4 @@
--- What a verdict comes to before any session is looked at: an answer, or the request passed. And the reply buffer then.
+-- What a verdict comes to before any session is looked at: an answer, or the request passed.
 -- Assumes nothing.
 use mathlib.Core.List.{List}
 use Prim.Native.Nat.{ℕ}
@@ -6,7 +6,6 @@ use Rattle.rules.specs.declared.Verdict as R
 use Rattle.rules.specs.declared.Verdict.the-variants as J
 use Rattle.reply.specs.Reply.{replyLength}
 use Rattle.answers.specs.declared.Answer.the-variants as A
-use Rattle.answers.specs.Replies.{replyAs}
 use Rattle.judging.specs.declared.Judged as D
 use Rattle.judging.specs.declared.Judged.the-variants.{Ended, Passed}
 
@@ -15,8 +14,3 @@ judgedAs p (J.Discarded d) = Ended (A.Discarded d)
 judgedAs p (J.Stale skew) = Ended (A.Stale skew)
 judgedAs p (J.Nak c skew) = Ended (A.Nak c skew (replyLength p c))
 judgedAs p (J.Passed skew) = Passed
-
--- the buffer b behind it
-abbrev pub replyJudged : List ℕ → List ℕ → List ℕ → D.Judged → List ℕ
-replyJudged secret p b (Ended a) = replyAs secret p b a
-replyJudged secret p b Passed = b

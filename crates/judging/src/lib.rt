@@ -11,7 +11,8 @@ ghost use Rattle.packets.specs.Discards.{formOf, Sized};
 ghost use Rattle.settings.specs.Settings.{settings};
 ghost use Rattle.rules.specs.Verdict.{checkVerdict};
 ghost use Rattle.reply.specs.Reply.{replyLength};
-ghost use Rattle.judging.specs.Judged.{judgedAs, replyJudged};
+ghost use Rattle.judging.specs.Judged.{judgedAs};
+ghost use Rattle.judging.specs.Stored.{storeJudged, replyJudged};
 
 // An answer, or the request passed.
 pub enum Judged {
@@ -82,4 +83,26 @@ pub fn judge(
         &sizes,
     );
     answered(v, p, n, secret, reply, f, &count, &ends, &sizes)
+}
+
+// Check of a job's part of the store, read again; D4 goes by the chaining words as held.
+pub fn check(
+    words: [u32; 4],
+    q: &[u8],
+    n: usize,
+    secret: &[u8],
+    address: u32,
+    name: &[u8],
+    clock: u32,
+    reply: &mut [u8],
+) -> Judged
+    requires { ⌜ 4096 ≤ length (now reply) ⌝ }
+    ensures { λ r. ⌜ r ≡ storeJudged (settings (now (secret .entry)) address (now (name .entry))) words n clock (now (q .entry)) ⌝ }
+    ensures { λ r. ⌜ now (reply .exit) ≡ replyJudged (now (secret .entry)) (now (q .entry)) (now (reply .entry)) r ⌝ }
+{
+    if reread::holds(n, q) {
+        let right = chaining::is_authenticator(words, q);
+        return judge(right, q, n, secret, address, name, clock, reply);
+    }
+    Judged::Ended(answers::Answer::Discarded(1))
 }
