@@ -10,7 +10,7 @@ trap 'exit 1' HUP INT TERM
 # The repository: the real gate; one edit; and three parts that only count, as the gate would test itself without end.
 repo=$room/repo
 mkdir -p "$repo/.ci" "$repo/tests" "$repo/crates/made/must-fail"
-cp Makefile "$repo"
+cp Makefile crates.txt "$repo"
 cp .ci/run "$repo/.ci"
 cp tests/gate.sh tests/must_fail_logs.sh tests/outside.sh "$repo/tests"
 echo 'an edit' >"$repo/crates/made/must-fail/loop.edit"
