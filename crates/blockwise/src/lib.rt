@@ -22,9 +22,9 @@ pub fn hash_block(q: State, p: &[u8], n: usize, secret: &[u8], k: usize) -> Stat
     if 0 < k {
         if k < n / 64 {
             let s = 64 * k;
-            return md5::blocks(q, &p[s..s + 64]);
+            return compression::blocks(q, &p[s..s + 64]);
         }
     }
     let b = blocks::request_block(p, n, secret, k);
-    md5::blocks(q, &b)
+    compression::blocks(q, &b)
 }

@@ -12,7 +12,7 @@ fn aligned(buf: &mut [u8], q: State, s: &[u8]) -> State
     requires { ⌜ length (now buf) ≡ 64 ⌝ }
     ensures { λ r. ⌜ ((n : ℕ) (m : List ℕ) → n % 64 ≡ 0 → Held n m q (now (buf .entry)) → Held (n + length (now (s .entry))) (m ++ now (s .entry)) r (now (buf .exit))) ⌝ }
 {
-    let r = md5::blocks(q, s);
+    let r = compression::blocks(q, s);
     let e = s.len() / 64 * 64;
     copies::copy(buf, 0, &s[e..]);
     r
@@ -33,7 +33,7 @@ pub fn update(buf: &mut [u8], q: State, n: usize, s: &[u8]) -> State
         return q;
     }
     copies::copy(&mut *buf, f, &s[..j]);
-    let r = md5::blocks(q, &*buf);
+    let r = compression::blocks(q, &*buf);
     aligned(buf, r, &s[j..])
 }
 
@@ -46,12 +46,12 @@ pub fn finish(buf: &mut [u8], q: State, n: usize) -> [u8; 16]
     endings::put_mark(&mut *buf, f);
     if f < 56 {
         endings::put_end(&mut *buf, f + 1, n);
-        return endings::bytes_of(md5::blocks(q, &*buf));
+        return endings::bytes_of(compression::blocks(q, &*buf));
     }
     copies::fill(&mut *buf, f + 1, 63 - f, 0);
-    let r = md5::blocks(q, &*buf);
+    let r = compression::blocks(q, &*buf);
     endings::put_end(&mut *buf, 0, n);
-    endings::bytes_of(md5::blocks(r, &*buf))
+    endings::bytes_of(compression::blocks(r, &*buf))
 }
 
 // The digest of a message that lies in one piece.

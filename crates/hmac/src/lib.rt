@@ -28,7 +28,7 @@ fn keyed_short(key: &[u8], c: u8) -> State
     ensures { λ r. ⌜ r ≡ after initial 1 (keyPad c (now (key .entry))) ⌝ }
 {
     let b = key_block(key, c);
-    md5::blocks(md5::initial(), &b)
+    compression::blocks(md5::initial(), &b)
 }
 
 // The words after the key's block.

@@ -1,3 +1,3 @@
 mod Choose
-mod Chain
+pub mod Chain
 pub mod After

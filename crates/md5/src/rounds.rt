@@ -22,7 +22,7 @@ fn four(q: State, m: &[u8], i: usize, s: Shifts, t0: u32, t1: u32, t2: u32, t3: 
 }
 
 // Round 1, with F.
-pub(crate) fn first(q: State, m: &[u8]) -> State
+pub fn first(q: State, m: &[u8]) -> State
     requires { ⌜ length (now m) ≡ 64 ⌝ }
     ensures { λ r. ⌜ r ≡ stepsFrom (now (m .entry)) 0 16 q ⌝ }
 {
@@ -34,7 +34,7 @@ pub(crate) fn first(q: State, m: &[u8]) -> State
 }
 
 // Round 2, with G.
-pub(crate) fn second(q: State, m: &[u8]) -> State
+pub fn second(q: State, m: &[u8]) -> State
     requires { ⌜ length (now m) ≡ 64 ⌝ }
     ensures { λ r. ⌜ r ≡ stepsFrom (now (m .entry)) 16 16 q ⌝ }
 {
@@ -46,7 +46,7 @@ pub(crate) fn second(q: State, m: &[u8]) -> State
 }
 
 // Round 3, with H.
-pub(crate) fn third(q: State, m: &[u8]) -> State
+pub fn third(q: State, m: &[u8]) -> State
     requires { ⌜ length (now m) ≡ 64 ⌝ }
     ensures { λ r. ⌜ r ≡ stepsFrom (now (m .entry)) 32 16 q ⌝ }
 {
@@ -58,7 +58,7 @@ pub(crate) fn third(q: State, m: &[u8]) -> State
 }
 
 // Round 4, with I.
-pub(crate) fn fourth(q: State, m: &[u8]) -> State
+pub fn fourth(q: State, m: &[u8]) -> State
     requires { ⌜ length (now m) ≡ 64 ⌝ }
     ensures { λ r. ⌜ r ≡ stepsFrom (now (m .entry)) 48 16 q ⌝ }
 {

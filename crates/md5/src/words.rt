@@ -5,7 +5,7 @@ ghost use lib.ListN.{length};
 ghost use Rattle.md5.specs.Md5.{rotl, wordAt};
 
 // x + y, modulo 2^32.
-pub(crate) fn add(x: u32, y: u32) -> u32
+pub fn add(x: u32, y: u32) -> u32
     ensures { λ r. ⌜ r ≡ (x + y) % 2 ^ 32 ⌝ }
 {
     ((x as u64 + y as u64) % 0x1_0000_0000) as u32

@@ -1,13 +1,13 @@
--- `md5::blocks` meets its contract. The invariant: the words are those after the blocks before `at`. Assumes nothing.
+-- `compression::blocks` meets its contract. The invariant: the words are those after the blocks before `at`. Assumes nothing.
 use borrow.Author.Needs.{needs}
 use mathlib.Core.Path.{_≡_}
 use Prim.Native.Nat.{_-_, _/_, _%_, _≤_}
 use native.Mathlib.Omega.{arith}
 use lib.ListN.{length, length-take, length-drop}
 use Rattle.md5.specs.Md5.{after}
 use Rattle.md5.proofs.After.{after-more, after-last}
-use Rattle.md5.proofs.blocks.Statement.{statement}
-use Rattle.md5.proofs.blocks.Tie as tie
+use Rattle.compression.proofs.blocks.Statement.{statement}
+use Rattle.compression.proofs.blocks.Tie as tie
 
 abbrev Inv-loop : tie.InvT-loop
 Inv-loop m r₀ at₀ r at = (at ≤ length m) × (at % 64 ≡ 0) × (r ≡ after r₀ (at / 64) m)

@@ -1,7 +1,7 @@
--- `md5::add_state` meets its contract: each word is the sum that the definition has. Assumes nothing.
+-- `compression::add_state` meets its contract: each word is the sum that the definition has. Assumes nothing.
 use borrow.Author.Needs.{needs}
-use Rattle.md5.proofs.add_state.Statement.{statement}
-use Rattle.md5.proofs.add_state.Tie as tie
+use Rattle.compression.proofs.add_state.Statement.{statement}
+use Rattle.compression.proofs.add_state.Tie as tie
 
 pub add-state-spec : {M : Type 1} → statement M
 add-state-spec =
