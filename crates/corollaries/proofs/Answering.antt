@@ -18,6 +18,6 @@ answer-passes g t b p clock (A.Refused n) e h = absurd (true≢false h)
 answer-passes g t b p clock (A.Discarded d) e h = absurd (true≢false h)
 answer-passes g t b p clock (A.Stale k) e h = absurd (true≢false h)
 answer-passes g t b p clock (A.Nak c k n) e h =
-    record { cause = c; written = demand2 g t b p clock .nak-reply c k n e; right = demand2 g t b p clock .carries (ap silent e ∙ h) c .passes }
+    record { cause = c; written = demand2 .judging g t b p clock .nak-reply c k n e; right = demand2 .judging g t b p clock .carries (ap silent e ∙ h) c .passes }
 answer-passes g t b p clock (A.Ack m k n) e h =
-    record { cause = NoCause; written = demand2 g t b p clock .ack-reply m k n e; right = demand2 g t b p clock .carries (ap silent e ∙ h) NoCause .passes }
+    record { cause = NoCause; written = demand2 .judging g t b p clock .ack-reply m k n e; right = demand2 .judging g t b p clock .carries (ap silent e ∙ h) NoCause .passes }

@@ -14,7 +14,8 @@ use Rattle.reply.specs.Reply.{replyOf}
 use Rattle.answers.specs.declared.Answer.{Answer}
 use Rattle.answers.specs.declared.Answer.the-variants as A
 use Rattle.requests.specs.Writer.{Draft, writeRefusal, requestOf}
-use Rattle.reply_check.specs.ReplyCheck.{failureOf}
+use Rattle.reply_check.specs.declared.Checked.the-variants.{Right}
+use Rattle.reply_check.specs.ReplyCheck.{checkAnswer}
 use Rattle.scheduler.specs.declared.Scheduler as D
 use Rattle.scheduler.specs.declared.Called as C
 use Rattle.scheduler.specs.declared.Outcome.the-variants.{Discarded, Done}
@@ -29,7 +30,7 @@ use Rattle.demands.specs.Answers.{silent}
 pub record Passes (secret p b r : List ℕ) : Type 0 where
   pub cause : Cause
   pub written : r ≡ write b 0 (replyOf secret p cause)
-  pub right : failureOf secret p (replyOf secret p cause) ≡ 0
+  pub right : checkAnswer secret p (replyOf secret p cause) ≡ Right
 
 -- secret is the scheduler's, w what a list of calls left, notes the packets and clocks that the serial execution of that list has noted
 pub record After (secret : List ℕ) (w : World) (notes : List Note) : Type 0 where

@@ -1,4 +1,5 @@
 pub mod Replied
+pub mod Carried
 pub mod Acked
 pub mod Silent
 pub mod Second

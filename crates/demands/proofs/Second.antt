@@ -3,24 +3,21 @@
 use mathlib.Core.Path.{_≡_, refl, ap, _∙_}
 use mathlib.Core.Bool.{true, false}
 use mathlib.Core.List.{List}
-use Prim.Native.Nat.{ℕ, _≤_, _<_}
-use native.Mathlib.Omega.{arith}
+use Prim.Native.Nat.{ℕ, _<_}
 use borrow.Author.Tests.{eq-eqb, ne-eqb}
 use lib.IntN.{ℤ}
-use lib.ListN.{getD, replicate}
+use lib.ListN.{length, getD, replicate}
 use mir.Syntax.{w8}
 use mir.Val.{Fits}
+use Rattle.octets.specs.Runs.{write}
 use Rattle.slots.specs.Slot.{slotCount, slot}
 use Rattle.changes.specs.Change.{changed}
 use Rattle.changes.specs.Change as S
-use Rattle.causes.specs.declared.Cause.{Cause}
 use Rattle.causes.proofs.Passed.{filter-first}
-use Rattle.packets.specs.Packet.{codeOf, lengthOf, areaOf}
+use Rattle.packets.specs.Packet.{codeOf, areaOf}
 use Rattle.settings.specs.Settings.{Settings}
 use Rattle.rules.specs.Verdict.{verdictOf}
 use Rattle.rules.specs.Discards.{signedBy}
-use Rattle.reply.specs.Reply.{bodyOf, replyOf, replyLength}
-use Rattle.replies.proofs.Back.{reply-identifier, reply-area}
 use Rattle.effects.specs.Matching.{matchesIn}
 use Rattle.effects.specs.Changes.{alterationOf, changeOf, changeMatching}
 use Rattle.effects.proofs.Outcomes.{slot-matching, slot-other}
@@ -31,11 +28,12 @@ use Rattle.answers.specs.Replies.{replyAs}
 use Rattle.handler.specs.Refusals.{refusalOf}
 use Rattle.handler.specs.Handle.{answerOf, tableAs, handleAnswer, handleTable, handleReply}
 use Rattle.handler.proofs.Bounds.{reply-bound}
-use Rattle.exchanges.proofs.Answered.{reply-passes}
+use Rattle.requests.specs.declared.Written.the-variants.{Done}
+use Rattle.requests.specs.Writer.{Draft, writeRefusal, requestOf, writeAnswer, writeOutput}
 use Rattle.exchanges.proofs.Requests.{written-form, written-signed, written-maced}
-use Rattle.demands.specs.Answers.{silent}
-use Rattle.demands.specs.Demand2.{Bytes, Altered, Carries, Demand2}
-use Rattle.demands.proofs.Replied.{formed}
+use Rattle.exchanges.proofs.Outputs.{length-request}
+use Rattle.demands.specs.Demand2.{Bytes, Altered, Judging, Demand2}
+use Rattle.demands.proofs.Carried.{nak-size, ack-size, carries}
 use Rattle.demands.proofs.Acked.{acked}
 use Rattle.demands.proofs.Silent.{silent-table-by, silent-reply-by, size-is}
 
@@ -66,17 +64,6 @@ module _ (g : Settings) (t b p : List ℕ) (clock : ℕ) where
   unfolding handleAnswer
   judged h = rw (eq-eqb _ _ h)
 
-  carries : silent (handleAnswer g t b p clock) ≡ false → (c : Cause) → Carries (g .secret) p (replyOf (g .secret) p c) c
-  unfolding bodyOf
-  carries h c =
-      let f = formed g t b p clock h in
-      let short : replyLength p c ≤ 4096 = omega (arith, f .room c, f .sized .high) in
-      record {
-        identifier = reply-identifier (g .secret) p c;
-        body = reply-area (g .secret) p c short;
-        passes = reply-passes (g .secret) p (lengthOf p) c (f .sized) short (f .form);
-      }
-
   module _ (m n : ℕ) (skew : ℤ) (ack : handleAnswer g t b p clock ≡ A.Ack m skew n) (k : ℕ) (l : k < slotCount t) (h : matchesIn (areaOf p) t k ≡ true) where
     after : (code : ℕ) → codeOf p ≡ code → handleTable g t b p clock ≡ changeMatching code (areaOf p) t
     after code e = table-of (A.Ack m skew n) ack ∙ rw e
@@ -85,15 +72,15 @@ module _ (g : Settings) (t b p : List ℕ) (clock : ℕ) where
     unfolding changeOf changed
     ended e = rw (after 40 e) (slot-matching 40 (areaOf p) t k l h)
 
-    written : slot k (changeMatching 43 (areaOf p) t) ≡ S.altered (areaOf p) (alterationOf (areaOf p)) (slot k t)
+    bytes : slot k (changeMatching 43 (areaOf p) t) ≡ S.altered (areaOf p) (alterationOf (areaOf p)) (slot k t)
     unfolding changeOf changed
-    written = slot-matching 43 (areaOf p) t k l h
+    bytes = slot-matching 43 (areaOf p) t k l h
 
     altered-to : Altered (areaOf p) (slot k t) (slot k (changeMatching 43 (areaOf p) t))
     altered-to =
         let no-cause = acked g t p clock m n skew b ack .uncaused-by in
         record {
-          written = written;
+          bytes = bytes;
           timeout = λ a e y. E.timeout-after (areaOf p) t k l h a e (fits-byte (areaOf p) y);
           timeout-same = λ e. E.timeout-same (areaOf p) t k l h e;
           idle = λ a e y. E.idle-after (areaOf p) t k l h a e (fits-byte (areaOf p) y);
@@ -108,11 +95,11 @@ module _ (g : Settings) (t b p : List ℕ) (clock : ℕ) where
           still-live = E.live-after (areaOf p) t k l h;
         }
 
-    altered : codeOf p ≡ 43 → Altered (areaOf p) (slot k t) (slot k (handleTable g t b p clock))
-    altered e = rw (after 43 e) altered-to
+    alters : codeOf p ≡ 43 → Altered (areaOf p) (slot k t) (slot k (handleTable g t b p clock))
+    alters e = rw (after 43 e) altered-to
 
-pub demand2 : (g : Settings) (t b p : List ℕ) (clock : ℕ) → Demand2 g t b p clock
-demand2 g t b p clock =
+judging : (g : Settings) (t b p : List ℕ) (clock : ℕ) → Judging g t b p clock
+judging g t b p clock =
     record {
       refused = refused g t b p clock;
       judged = judged g t b p clock;
@@ -121,11 +108,25 @@ demand2 g t b p clock =
       nak-table = λ c skew n e. table-of g t b p clock (A.Nak c skew n) e;
       nak-reply = λ c skew n e. reply-of g t b p clock (A.Nak c skew n) e;
       ack-reply = λ m skew n e. reply-of g t b p clock (A.Ack m skew n) e;
+      nak-size = nak-size g t b p clock;
+      ack-size = ack-size g t b p clock;
       never-longer = rw (size-is (handleAnswer g t b p clock)) (reply-bound g t b p clock);
       carries = carries g t b p clock;
       count = λ m skew n e. acked g t p clock m n skew b e .count;
       others = λ k l h. ap (slot k) (table-of g t b p clock (handleAnswer g t b p clock) refl) ∙ others-by p t k (handleAnswer g t b p clock) l h;
       ended = λ m skew n e code k l h. ended g t b p clock m n skew e k l h code;
-      altered = λ m skew n e code k l h. altered g t b p clock m n skew e k l h code;
-      written = λ secret out d h. (written-form secret out d h, written-signed secret out d h, written-maced secret out d h);
+      alters = λ m skew n e code k l h. alters g t b p clock m n skew e k l h code;
+    }
+
+written : (secret out : List ℕ) (d : Draft) → writeRefusal secret out d ≡ 0
+    → (writeAnswer secret out d ≡ Done (length (requestOf secret d))) × (writeOutput secret out d ≡ write out 0 (requestOf secret d))
+unfolding writeAnswer writeOutput
+written secret out d h = (rw (h, length-request secret d), rw h)
+
+pub demand2 : Demand2
+demand2 =
+    record {
+      judging = judging;
+      written = written;
+      accepted = λ secret out d h. (written-form secret out d h, written-signed secret out d h, written-maced secret out d h);
     }

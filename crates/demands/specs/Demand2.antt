@@ -2,36 +2,38 @@
 -- the first cause that applies, else acknowledged, with exactly the matching sessions ended or altered."
 -- g is what the gate is set up with, t the table, b the reply buffer, p the request, clock the clock reading. The code's contract is these definitions.
 -- Assumes nothing.
-use mathlib.Core.Bool.{true, false}
+use mathlib.Core.Bool.{true, false, cond}
 use mathlib.Core.List.{List, _++_}
 use mathlib.Core.Path.{_≡_}
 use Prim.Native.Nat.{ℕ, _+_, _≤_, _<_}
 use lib.IntN.{ℤ}
-use lib.ListN.{getD, replicate}
+use lib.ListN.{length, getD, replicate}
 use Rattle.octets.specs.Numbers.{be}
 use Rattle.octets.specs.Runs.{write}
 use Rattle.attributes.specs.declared.Attribute.{Attribute}
 use Rattle.attributes.specs.declared.Search.the-variants.{At, Missing}
 use Rattle.attributes.specs.Attributes.{attributes, valueOf, firstOf, kindIs}
-use Rattle.signing.specs.Signing.{zeros}
+use Rattle.signing.specs.Signing.{zeros, authenticator}
 use Rattle.slots.specs.Slot.{slotCount, slot, live, nasPort, framedAddress, sessionTimeout, idleTimeout, userName, sessionId, callingStation, filterId}
 use Rattle.changes.specs.Change.{altered}
 use Rattle.causes.specs.declared.Cause.{Cause}
 use Rattle.causes.specs.declared.Cause.the-variants.{NoCause}
-use Rattle.packets.specs.Packet.{codeOf, identifierOf, lengthOf, areaOf}
+use Rattle.packets.specs.Packet.{codeOf, identifierOf, lengthOf, authOf, areaOf}
 use Rattle.settings.specs.Settings.{Settings}
 use Rattle.packets.specs.Discards.{formOf}
 use Rattle.macs.specs.Discards.{badMac}
 use Rattle.rules.specs.Discards.{signedBy}
-use Rattle.rules.specs.Verdict.{verdictOf}
+use Rattle.rules.specs.Verdict.{applies, verdictOf}
 use Rattle.reply.specs.Reply.{statePart, causePart, proxyPart, macPart, replyMac, replyOf}
 use Rattle.effects.specs.Matching.{matchesIn, matchCount}
 use Rattle.effects.specs.Changes.{alterationOf}
 use Rattle.answers.specs.declared.Answer.the-variants.{Refused, Nak, Ack}
 use Rattle.handler.specs.Refusals.{refusalOf}
 use Rattle.handler.specs.Handle.{answerOf, handleAnswer, handleTable, handleReply}
-use Rattle.requests.specs.Writer.{Draft, writeRefusal, requestOf}
-use Rattle.reply_check.specs.ReplyCheck.{failureOf}
+use Rattle.requests.specs.declared.Written.the-variants.{Done}
+use Rattle.requests.specs.Writer.{Draft, writeRefusal, requestOf, writeAnswer, writeOutput}
+use Rattle.reply_check.specs.declared.Checked.the-variants.{Right}
+use Rattle.reply_check.specs.ReplyCheck.{checkAnswer}
 use Rattle.demands.specs.Answers.{silent, replySize}
 
 -- a list of bytes
@@ -41,7 +43,7 @@ Bytes l = (i : ℕ) → getD l i 0 < 256
 -- exactly the named fields of a session have the new values: s is the slot before, s′ after; the numbers with all 32 bits
 pub record Altered (area s s′ : List ℕ) : Type 0 where
   -- its bytes: only the fields that the request names are written
-  pub written : s′ ≡ altered area (alterationOf area) s
+  pub bytes : s′ ≡ altered area (alterationOf area) s
   -- and so its fields
   pub timeout : (a : Attribute) → firstOf (kindIs 27) (attributes area) ≡ At a → Bytes area → sessionTimeout s′ ≡ be (a .at + 2) 4 area
   pub timeout-same : firstOf (kindIs 27) (attributes area) ≡ Missing → sessionTimeout s′ ≡ sessionTimeout s
@@ -56,14 +58,18 @@ pub record Altered (area s s′ : List ℕ) : Type 0 where
   pub station-same : callingStation s′ ≡ callingStation s
   pub still-live : live s′ ≡ true
 
--- a reply to the request p carries the first State, Error-Cause on NAK, every Proxy-State in order, and type 80 if the request had one
+-- a reply r to the request p, of an ACK (NoCause) or of the NAK with this cause
 pub record Carries (secret p r : List ℕ) (c : Cause) : Type 0 where
+  pub code : codeOf r ≡ codeOf p + cond (applies c) 2 1
   pub identifier : identifierOf r ≡ identifierOf p
+  pub authentic : authOf r ≡ authenticator (authOf p) r (lengthOf r) secret
+  -- the first State, Error-Cause on NAK, every Proxy-State in order, and type 80 if the request had one
   pub body : areaOf r ≡ (statePart (areaOf p) ++ causePart c ++ proxyPart (areaOf p)) ++ macPart p (replyMac secret p c)
   -- it passes our reply check
-  pub passes : failureOf secret p r ≡ 0
+  pub passes : checkAnswer secret p r ≡ Right
 
-pub record Demand2 (g : Settings) (t b p : List ℕ) (clock : ℕ) : Type 0 where
+-- one request, handled whole
+pub record Judging (g : Settings) (t b p : List ℕ) (clock : ℕ) : Type 0 where
   -- a refusal comes before any judgement; else the verdict of D1 to D6 and causes 1 to 6, and behind it cause 7, decide
   pub refused : (refusalOf g t b ≡ 0 → ⊥) → handleAnswer g t b p clock ≡ Refused (refusalOf g t b)
   pub judged : refusalOf g t b ≡ 0 → handleAnswer g t b p clock ≡ answerOf p t (verdictOf g (signedBy (g .secret) p) p clock)
@@ -71,9 +77,11 @@ pub record Demand2 (g : Settings) (t b p : List ℕ) (clock : ℕ) : Type 0 wher
   pub silent-table : silent (handleAnswer g t b p clock) ≡ true → handleTable g t b p clock ≡ t
   pub silent-reply : silent (handleAnswer g t b p clock) ≡ true → handleReply g t b p clock ≡ b
   pub nak-table : (c : Cause) (skew : ℤ) (n : ℕ) → handleAnswer g t b p clock ≡ Nak c skew n → handleTable g t b p clock ≡ t
-  -- the reply stands at the buffer's start, the bytes after it stay, and it is never longer than the request
+  -- the reply stands at the buffer's start, the bytes after it stay, its length is the one told, and it is never longer than the request
   pub nak-reply : (c : Cause) (skew : ℤ) (n : ℕ) → handleAnswer g t b p clock ≡ Nak c skew n → handleReply g t b p clock ≡ write b 0 (replyOf (g .secret) p c)
   pub ack-reply : (m : ℕ) (skew : ℤ) (n : ℕ) → handleAnswer g t b p clock ≡ Ack m skew n → handleReply g t b p clock ≡ write b 0 (replyOf (g .secret) p NoCause)
+  pub nak-size : (c : Cause) (skew : ℤ) (n : ℕ) → handleAnswer g t b p clock ≡ Nak c skew n → length (replyOf (g .secret) p c) ≡ n
+  pub ack-size : (m : ℕ) (skew : ℤ) (n : ℕ) → handleAnswer g t b p clock ≡ Ack m skew n → length (replyOf (g .secret) p NoCause) ≡ n
   pub never-longer : replySize (handleAnswer g t b p clock) ≤ lengthOf p
   pub carries : silent (handleAnswer g t b p clock) ≡ false → (c : Cause) → Carries (g .secret) p (replyOf (g .secret) p c) c
   -- an ACK: the count is that of the matching live slots, and all others stay
@@ -83,8 +91,13 @@ pub record Demand2 (g : Settings) (t b p : List ℕ) (clock : ℕ) : Type 0 wher
   pub ended : (m : ℕ) (skew : ℤ) (n : ℕ) → handleAnswer g t b p clock ≡ Ack m skew n → codeOf p ≡ 40
       → (k : ℕ) → k < slotCount t → matchesIn (areaOf p) t k ≡ true → slot k (handleTable g t b p clock) ≡ replicate 192 0
   -- after an ACK of a CoA exactly the named fields of the matching sessions have the new values
-  pub altered : (m : ℕ) (skew : ℤ) (n : ℕ) → handleAnswer g t b p clock ≡ Ack m skew n → codeOf p ≡ 43
+  pub alters : (m : ℕ) (skew : ℤ) (n : ℕ) → handleAnswer g t b p clock ≡ Ack m skew n → codeOf p ≡ 43
       → (k : ℕ) → k < slotCount t → matchesIn (areaOf p) t k ≡ true → Altered (areaOf p) (slot k t) (slot k (handleTable g t b p clock))
-  -- a request from our writer never meets D1 to D5 under the same secret
+
+pub record Demand2 : Type 0 where
+  pub judging : (g : Settings) (t b p : List ℕ) (clock : ℕ) → Judging g t b p clock
+  -- a request that our writer does not refuse stands at the output's start, its length is the one told, and it never meets D1 to D5 under the same secret
   pub written : (secret out : List ℕ) (d : Draft) → writeRefusal secret out d ≡ 0
+      → (writeAnswer secret out d ≡ Done (length (requestOf secret d))) × (writeOutput secret out d ≡ write out 0 (requestOf secret d))
+  pub accepted : (secret out : List ℕ) (d : Draft) → writeRefusal secret out d ≡ 0
       → (formOf (requestOf secret d) ≡ 0) × (signedBy secret (requestOf secret d) ≡ true) × (badMac zeros secret (requestOf secret d) ≡ false)

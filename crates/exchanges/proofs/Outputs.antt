@@ -21,7 +21,7 @@ use Rattle.requests.proofs.Refusals.{taken}
 use Rattle.exchanges.proofs.Padded.{same-form, same-signed, same-mac}
 use Rattle.exchanges.proofs.Requests.{request-is, length-is, request-short, written-form, written-signed, written-maced}
 
-length-request : (secret : List ℕ) (d : Draft) → length (requestOf secret d) ≡ requestLength d
+pub length-request : (secret : List ℕ) (d : Draft) → length (requestOf secret d) ≡ requestLength d
 length-request secret d =
     ap length (request-is secret d)
     ∙ length-signed secret zeros (d .code ∷ d .identifier ∷ beBytes 2 (requestLength d)) (d .given) (d .add) (head-four secret zeros (d .given) (d .add) (d .code) (d .identifier) (requestLength d))
