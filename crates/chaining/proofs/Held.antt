@@ -10,11 +10,11 @@ use Rattle.md5.specs.Md5.{output}
 use Rattle.md5.proofs.After.{length-output}
 use Rattle.blockwise.specs.Block.{hashed}
 use Rattle.signing.proofs.Pieces.{compared}
-use Rattle.packets.specs.Packet.{authOf}
-use Rattle.chaining.specs.Words.{wordsOf, hashState}
+use Rattle.chaining.specs.Words.{wordsOf, hashState, wordsSigned}
 
 pub words-after : (w v p secret : List ℕ) (k n : ℕ) (before after : State) → before ≡ hashState w → after ≡ hashed before k p n secret → v ≡ wordsOf after → v ≡ wordsOf (hashed (hashState w) k p n secret)
 words-after w v p secret k n before after e h i = i ∙ ap wordsOf (h ∙ rw e)
 
-pub words-signed : (w q d : List ℕ) (s : State) (r : Bool) → s ≡ hashState w → d ≡ output s → r ≡ equalBytes (part 4 16 q) (part 0 16 d) → r ≡ equalBytes (authOf q) (output (hashState w))
+pub words-signed : (w q d : List ℕ) (s : State) (r : Bool) → s ≡ hashState w → d ≡ output s → r ≡ equalBytes (part 4 16 q) (part 0 16 d) → r ≡ wordsSigned w q
+unfolding wordsSigned
 words-signed w q d s r i h e = compared (part 4 16 q) d (output (hashState w)) r e (h ∙ ap output i) (length-output (hashState w))

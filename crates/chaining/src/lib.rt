@@ -2,11 +2,8 @@
 ghost use mathlib.Core.Path.{_≡_};
 ghost use Prim.Native.Nat.{_+_, _≤_, _<_};
 ghost use lib.ListN.{length};
-ghost use Rattle.octets.specs.Runs.{equalBytes};
-ghost use Rattle.md5.specs.Md5.{output};
 ghost use Rattle.blockwise.specs.Block.{blockCount, hashed};
-ghost use Rattle.packets.specs.Packet.{authOf};
-ghost use Rattle.chaining.specs.Words.{wordsOf, hashState};
+ghost use Rattle.chaining.specs.Words.{wordsOf, hashState, wordsSigned};
 
 fn state_of(words: [u32; 4]) -> md5::State
     ensures { λ r. ⌜ r ≡ hashState words ⌝ }
@@ -38,7 +35,7 @@ pub fn after_block(words: [u32; 4], q: &[u8], n: usize, secret: &[u8], k: usize)
 // D4 by the words as held: they are the authenticator of the packet q.
 pub fn is_authenticator(words: [u32; 4], q: &[u8]) -> bool
     requires { ⌜ 20 ≤ length (now q) ⌝ }
-    ensures { λ r. ⌜ r ≡ equalBytes (authOf (now (q .entry))) (output (hashState words)) ⌝ }
+    ensures { λ r. ⌜ r ≡ wordsSigned words (now (q .entry)) ⌝ }
 {
     let d = endings::bytes_of(state_of(words));
     runs::equal16(q, 4, &d, 0)

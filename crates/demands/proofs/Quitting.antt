@@ -20,7 +20,9 @@ use Rattle.rules.specs.Verdict.{checkVerdict}
 use Rattle.answers.specs.declared.Answer as D
 use Rattle.answers.specs.declared.Answer.the-variants as A
 use Rattle.answers.specs.Commit.{countAnswer, commitAnswer, commitTable}
+use Rattle.judging.specs.declared.Judged.the-variants.{Ended}
 use Rattle.judging.specs.Judged.{judgedAs}
+use Rattle.judging.specs.Stored.{storeJudged}
 use Rattle.jobs.specs.declared.Job as B
 use Rattle.jobs.specs.declared.Stage as S
 use Rattle.jobs.specs.declared.Stage.the-variants as P
@@ -29,7 +31,7 @@ use Rattle.jobs.specs.declared.Ending.the-variants as K
 use Rattle.jobs.specs.declared.Moved as M
 use Rattle.jobs.specs.Job.{freeJob}
 use Rattle.reread.specs.Reread.{holds, holdsPassed}
-use Rattle.jobs.specs.Moves.{going, done, checkedAs, checkMove, wordsSigned, matchJob, skewAt, commitMove, slotMove, slotTable, movedAt, moved, movedTableAt, movedTable}
+use Rattle.jobs.specs.Moves.{going, done, checkedAs, checkMove, matchJob, skewAt, commitMove, slotMove, slotTable, movedAt, moved, movedTableAt, movedTable}
 use Rattle.demands.proofs.Discarding.{Among, or-right, check-among}
 
 -- the job x and the table u after a move that gave this answer or went on, of the table t
@@ -55,13 +57,13 @@ judged-quits j q t (J.Stale k) h = (refl, refl)
 judged-quits j q t (J.Nak c k) h = tt
 judged-quits j q t (J.Passed k) h = tt
 
-check-by : (g : Settings) (j : B.Job) (q t : List ℕ) (f : Bool) → Quit t t (cond f (checkedAs j (judgedAs q (checkVerdict g (wordsSigned j q) q (j .clock)))) (done (A.Discarded 1)))
-check-by g j q t true = judged-quits j q t (checkVerdict g (wordsSigned j q) q (j .clock)) (check-among g q (j .clock) (wordsSigned j q))
-check-by g j q t false = (refl, refl, refl)
+check-by : (g : Settings) (j : B.Job) (q t : List ℕ) (s f : Bool) → Quit t t (checkedAs j (cond f (judgedAs q (checkVerdict g s q (j .clock))) (Ended (A.Discarded 1))))
+check-by g j q t s true = judged-quits j q t (checkVerdict g s q (j .clock)) (check-among g q (j .clock) s)
+check-by g j q t s false = (refl, refl, refl)
 
 check-quits : (g : Settings) (j : B.Job) (q t : List ℕ) → Quit t t (checkMove g j q)
-unfolding checkMove
-check-quits g j q t = check-by g j q t (holds (j .length) q)
+unfolding checkMove storeJudged
+check-quits g j q t = check-by g j q t _ (holds (j .length) q)
 
 -- ---- Match and Commit
 

@@ -1,23 +1,19 @@
 -- Check: an answer to the store frees the job, and its reply stands in the buffer; what passed goes on.
 -- Assumes nothing.
 use mathlib.Core.Path.{_≡_, refl, ap, _∙_}
-use mathlib.Core.Bool.{Bool, true, false, cond}
 use mathlib.Core.List.{List}
 use Prim.Native.Nat.{ℕ}
 use Rattle.settings.specs.Settings.{Settings}
-use Rattle.rules.specs.Verdict.{checkVerdict}
 use Rattle.answers.specs.declared.Answer as D
 use Rattle.answers.specs.declared.Answer.the-variants as A
 use Rattle.judging.specs.declared.Judged.{Judged}
 use Rattle.judging.specs.declared.Judged.the-variants.{Ended, Passed}
-use Rattle.judging.specs.Judged.{judgedAs}
 use Rattle.judging.specs.Stored.{storeJudged, replyJudged}
 use Rattle.jobs.specs.declared.Job.{Job}
 use Rattle.jobs.specs.declared.Moved.{Moved}
 use Rattle.jobs.specs.declared.Ending.the-variants.{Done}
 use Rattle.jobs.specs.Job.{freeJob, atFirstSlot}
-use Rattle.reread.specs.Reread.{holds}
-use Rattle.jobs.specs.Moves.{going, done, wordsSigned, checkedAs, checkMove, replyAfter}
+use Rattle.jobs.specs.Moves.{going, done, checkedAs, checkMove, replyAfter}
 
 pub freed : (j : Job) (a : D.Answer) → j ≡ freeJob → record { job = j; ending = Done a } ≡ done a
 freed j a e = rw e
@@ -45,12 +41,8 @@ module _ (secret q b : List ℕ) (r : Moved) where
   pub judged-reply : (u : List ℕ) (j : Job) (x : Judged) → u ≡ replyJudged secret q b x → r ≡ checkedAs j x → u ≡ replyAfter secret q b (r .ending)
   judged-reply u j x h e = h ∙ judged-after secret q b j x ∙ rw e
 
--- ---- the whole: what ends the job in the store's judgement ends it in the move
-
-by-held : (j : Job) (x : Judged) (b : Bool) → checkedAs j (cond b x (Ended (A.Discarded 1))) ≡ cond b (checkedAs j x) (done (A.Discarded 1))
-by-held j x true = refl
-by-held j x false = refl
+-- ---- the whole
 
 pub check-whole : (g : Settings) (j : Job) (q : List ℕ) (r : Moved) (x : Judged) → x ≡ storeJudged g (j .words) (j .length) (j .clock) q → r ≡ checkedAs j x → r ≡ checkMove g j q
-unfolding checkMove wordsSigned storeJudged
-check-whole g j q r x u e = e ∙ ap (checkedAs j) u ∙ by-held j (judgedAs q (checkVerdict g (wordsSigned j q) q (j .clock))) (holds (j .length) q)
+unfolding checkMove
+check-whole g j q r x u e = e ∙ ap (checkedAs j) u

@@ -1,21 +1,18 @@
 -- The moves of a job (document 01, "The desk": Hash, Check, Match, Commit). g is what the scheduler was made with, q the job's part of the store, t the table.
 -- Assumes nothing.
-use mathlib.Core.Bool.{Bool, cond}
+use mathlib.Core.Bool.{cond}
 use mathlib.Core.List.{List}
 use Prim.Native.Nat.{ℕ, _+_}
 use lib.Dec.{ltb}
 use lib.IntN.{ℤ, pos}
 use lib.ListN.{length, set}
-use Rattle.octets.specs.Runs.{equalBytes}
-use Rattle.md5.specs.Md5.{output}
 use Rattle.blockwise.specs.Block.{blockCount, hashed}
 use Rattle.slots.specs.Slot.{slotCount}
 use Rattle.stamps.specs.declared.Stamp as T
 use Rattle.stamps.specs.declared.Stamp.the-variants.{Usable, Unusable}
 use Rattle.stamps.specs.Stamp.{stampOf, skewOf}
-use Rattle.packets.specs.Packet.{authOf, areaOf}
+use Rattle.packets.specs.Packet.{areaOf}
 use Rattle.settings.specs.Settings.{Settings}
-use Rattle.rules.specs.Verdict.{checkVerdict}
 use Rattle.effects.specs.Matching.{matchesIn}
 use Rattle.answers.specs.declared.Answer as D
 use Rattle.answers.specs.declared.Answer.the-variants as A
@@ -23,7 +20,7 @@ use Rattle.answers.specs.Replies.{replyAs}
 use Rattle.answers.specs.Commit.{commitAnswer, commitTable}
 use Rattle.judging.specs.declared.Judged as G
 use Rattle.judging.specs.declared.Judged.the-variants.{Ended, Passed}
-use Rattle.judging.specs.Judged.{judgedAs}
+use Rattle.judging.specs.Stored.{storeJudged}
 use Rattle.jobs.specs.declared.Job as B
 use Rattle.jobs.specs.declared.Stage as S
 use Rattle.jobs.specs.declared.Stage.the-variants.{Free, Hash, Check, Match}
@@ -32,7 +29,7 @@ use Rattle.jobs.specs.declared.Ending.the-variants.{Going, Done}
 use Rattle.jobs.specs.declared.Moved as M
 use Rattle.chaining.specs.Words.{wordsOf, hashState}
 use Rattle.jobs.specs.Job.{freeJob, atFirstSlot}
-use Rattle.reread.specs.Reread.{holds, holdsPassed}
+use Rattle.reread.specs.Reread.{holdsPassed}
 
 -- it goes on; it is finished, and free again
 abbrev pub going : B.Job → M.Moved
@@ -52,17 +49,14 @@ hashJob secret j k q =
       clock = j .clock;
     }
 
--- D4 by the words as held: are they the authenticator in the store
-unfoldable pub wordsSigned : B.Job → List ℕ → Bool
-wordsSigned j q = equalBytes (authOf q) (output (hashState (j .words)))
-
--- Check: D4 to D6 and causes 1 to 6; an answer ends the job, what passed goes on to slot 0
+-- what Check comes to: an answer ends the job, what passed goes on to slot 0
 abbrev pub checkedAs : B.Job → G.Judged → M.Moved
 checkedAs j (Ended a) = done a
 checkedAs j Passed = going (atFirstSlot j)
 
+-- Check by the words, Length and clock as kept
 unfoldable pub checkMove : Settings → B.Job → List ℕ → M.Moved
-checkMove g j q = cond (holds (j .length) q) (checkedAs j (judgedAs q (checkVerdict g (wordsSigned j q) q (j .clock)))) (done (A.Discarded 1))
+checkMove g j q = checkedAs j (storeJudged g (j .words) (j .length) (j .clock) q)
 
 -- Match: slot k
 unfoldable pub matchJob : B.Job → ℕ → List ℕ → List ℕ → B.Job

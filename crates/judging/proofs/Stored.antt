@@ -4,12 +4,9 @@ use mathlib.Core.Path.{_≡_, _∙_}
 use mathlib.Core.Bool.{Bool, true, false}
 use mathlib.Core.List.{List}
 use Prim.Native.Nat.{ℕ}
-use Rattle.octets.specs.Runs.{equalBytes}
-use Rattle.md5.specs.Md5.{output}
-use Rattle.packets.specs.Packet.{authOf}
 use Rattle.settings.specs.Settings.{Settings}
 use Rattle.rules.specs.Verdict.{checkVerdict}
-use Rattle.chaining.specs.Words.{hashState}
+use Rattle.chaining.specs.Words.{wordsSigned}
 use Rattle.reread.specs.Reread.{holds}
 use Rattle.answers.specs.declared.Answer.the-variants as A
 use Rattle.judging.specs.declared.Judged.{Judged}
@@ -18,7 +15,7 @@ use Rattle.judging.specs.Judged.{judgedAs}
 use Rattle.judging.specs.Stored.{storeJudged}
 
 module _ (g : Settings) (words : List ℕ) (n clock : ℕ) (q : List ℕ) (b : Bool) (is : b ≡ holds n q) where
-  pub store-held : b ≡ true → (d : Bool) → d ≡ equalBytes (authOf q) (output (hashState words)) → (r : Judged) → r ≡ judgedAs q (checkVerdict g d q clock) → r ≡ storeJudged g words n clock q
+  pub store-held : b ≡ true → (d : Bool) → d ≡ wordsSigned words q → (r : Judged) → r ≡ judgedAs q (checkVerdict g d q clock) → r ≡ storeJudged g words n clock q
   unfolding storeJudged
   store-held h d i r e = e ∙ rw (← is, h, i)
 

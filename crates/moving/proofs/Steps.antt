@@ -10,16 +10,15 @@ use lib.ListN.{length}
 use Rattle.blockwise.specs.Block.{blockCount}
 use Rattle.slots.specs.Slot.{slotCount}
 use Rattle.settings.specs.Settings.{Settings}
-use Rattle.rules.specs.Verdict.{checkVerdict}
 use Rattle.judging.specs.declared.Judged.{Judged}
 use Rattle.judging.specs.declared.Judged.the-variants.{Ended, Passed}
-use Rattle.judging.specs.Judged.{judgedAs}
+use Rattle.judging.specs.Stored.{storeJudged}
 use Rattle.jobs.specs.declared.Job.{Job}
 use Rattle.jobs.specs.declared.Stage.the-variants.{Free, Hash, Check, Match}
 use Rattle.jobs.specs.declared.Moved.{Moved}
 use Rattle.jobs.specs.Job.{Placed, JobOurs}
-use Rattle.reread.specs.Reread.{holds, holdsPassed}
-use Rattle.jobs.specs.Moves.{going, hashJob, wordsSigned, checkedAs, checkMove, matchJob, commitMove, slotMove, slotTable, moved, movedTable}
+use Rattle.reread.specs.Reread.{holdsPassed}
+use Rattle.jobs.specs.Moves.{going, hashJob, checkedAs, checkMove, matchJob, commitMove, slotMove, slotTable, moved, movedTable}
 
 -- ---- by the stage
 
@@ -90,13 +89,9 @@ checked-ours : (s : ℕ) (j : Job) (x : Judged) → JobOurs s (checkedAs j x .jo
 checked-ours s j (Ended a) = tt
 checked-ours s j Passed = tt
 
-check-ours : (s : ℕ) (g : Settings) (j : Job) (q : List ℕ) (b : Bool) → holds (j .length) q ≡ b → JobOurs s (checkMove g j q .job)
-unfolding checkMove
-check-ours s g j q true e = rw e (checked-ours s j (judgedAs q (checkVerdict g (wordsSigned j q) q (j .clock))))
-check-ours s g j q false e = rw e tt
-
 pub ours-check : (s : ℕ) (g : Settings) (j : Job) (q : List ℕ) (r : Moved) → r ≡ checkMove g j q → JobOurs s (r .job)
-ours-check s g j q r e = rw e (check-ours s g j q (holds (j .length) q) refl)
+unfolding checkMove
+ours-check s g j q r e = rw e (checked-ours s j (storeJudged g (j .words) (j .length) (j .clock) q))
 
 slot-ours : (s k : ℕ) (g : Settings) (j : Job) (q t : List ℕ) (a b : Bool) → holdsPassed g (j .length) q ≡ a → ltb k (slotCount t) ≡ b → JobOurs s (slotMove g j k q t .job)
 unfolding slotMove matchJob commitMove

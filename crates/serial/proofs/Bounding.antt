@@ -13,11 +13,10 @@ use Rattle.blockwise.specs.Block.{blockCount}
 use Rattle.slots.specs.Slot.{slotCount}
 use Rattle.slots.proofs.Count.{counted}
 use Rattle.settings.specs.Settings.{Settings}
-use Rattle.rules.specs.Verdict.{checkVerdict}
 use Rattle.answers.specs.declared.Answer.the-variants as A
 use Rattle.judging.specs.declared.Judged.{Judged}
 use Rattle.judging.specs.declared.Judged.the-variants as G
-use Rattle.judging.specs.Judged.{judgedAs}
+use Rattle.judging.specs.Stored.{storeJudged}
 use Rattle.jobs.specs.declared.Job as B
 use Rattle.jobs.specs.declared.Stage as S
 use Rattle.jobs.specs.declared.Stage.the-variants.{Free, Hash, Check, Match}
@@ -25,8 +24,8 @@ use Rattle.jobs.specs.declared.Ending as E
 use Rattle.jobs.specs.declared.Ending.the-variants as K
 use Rattle.jobs.specs.declared.Moved as M
 use Rattle.jobs.specs.Job.{freeJob, isOpen, restarted}
-use Rattle.reread.specs.Reread.{holds, holdsPassed}
-use Rattle.jobs.specs.Moves.{going, done, hashJob, wordsSigned, checkedAs, checkMove, matchJob, commitMove, slotMove, movedAt}
+use Rattle.reread.specs.Reread.{holdsPassed}
+use Rattle.jobs.specs.Moves.{going, done, hashJob, checkedAs, checkMove, matchJob, commitMove, slotMove, movedAt}
 use Rattle.scheduler.specs.declared.Scheduler as D
 use Rattle.scheduler.specs.Scheduler.{jobAt, openAt, withJob, restartAll}
 use Rattle.scheduler.specs.Calls.{isAck, steppedAs}
@@ -48,10 +47,9 @@ hash-less : (f : Bool) (k n : ℕ) → ltb (k + 1) n ≡ f → n ≤ 66 → left
 hash-less true k n e h = omega (arith, ltb-true (k + 1) n e)
 hash-less false k n e h = omega arith
 
-checked-less : (f : Bool) (x : Judged) (j : B.Job) → Less Check (cond f (checkedAs j x) (done (A.Discarded 1)))
-checked-less true (G.Ended a) j = tt
-checked-less true G.Passed j = omega arith
-checked-less false x j = tt
+checked-less : (x : Judged) (j : B.Job) → Less Check (checkedAs j x)
+checked-less (G.Ended a) j = tt
+checked-less G.Passed j = omega arith
 
 slot-less : (f e : Bool) (k n : ℕ) (j : B.Job) (q t : List ℕ) → ltb k n ≡ e → n ≤ 64
     → Less (Match k) (cond f (cond e (going (matchJob j k q t)) (commitMove j q t)) (done (A.Discarded 1)))
@@ -64,7 +62,7 @@ pub moved-less : (g : Settings) (x : S.Stage) (j : B.Job) (q t : List ℕ) → b
 unfolding hashJob checkMove slotMove
 moved-less g Free j q t h o = absurd (false≢true o)
 moved-less g (Hash k) j q t h o = hash-less _ k (blockCount (j .length + length (g .secret))) refl h
-moved-less g Check j q t h o = checked-less (holds (j .length) q) (judgedAs q (checkVerdict g (wordsSigned j q) q (j .clock))) j
+moved-less g Check j q t h o = checked-less (storeJudged g (j .words) (j .length) (j .clock) q) j
 moved-less g (Match k) j q t h o = slot-less (holdsPassed g (j .length) q) (ltb k (slotCount t)) k (slotCount t) j q t refl (counted t .most)
 
 -- ---- the list, after a step

@@ -26,11 +26,12 @@ use Rattle.reply.specs.Reply.{replyLength}
 use Rattle.answers.specs.declared.Answer.the-variants as A
 use Rattle.handler.specs.Refusals.{refusalOf}
 use Rattle.judging.specs.Judged.{judgedAs}
+use Rattle.judging.specs.Stored.{storeJudged}
 use Rattle.jobs.specs.declared.Job as B
 use Rattle.jobs.specs.declared.Stage.the-variants.{Hash, Check}
-use Rattle.chaining.specs.Words.{wordsOf, hashState}
+use Rattle.chaining.specs.Words.{wordsOf, hashState, wordsSigned}
 use Rattle.reread.specs.Reread.{holds}
-use Rattle.jobs.specs.Moves.{going, hashJob, wordsSigned, checkedAs, checkMove}
+use Rattle.jobs.specs.Moves.{going, hashJob, checkedAs, checkMove}
 use Rattle.serial.proofs.Same.{SamePacket, form-sized, same-holds}
 use Rattle.serial.proofs.Judging.{check-same, length-same}
 use Rattle.serial.proofs.Passing.{passing}
@@ -69,7 +70,7 @@ module _ (g : Settings) (p : List ℕ) (clock : ℕ) (q t b : List ℕ) (open-to
 
   -- ---- Check
 
-  signed-words : (j : B.Job) → j .words ≡ wordsAt g p (blocksOf g p) → wordsSigned j q ≡ signedBy (g .secret) p
+  signed-words : (j : B.Job) → j .words ≡ wordsAt g p (blocksOf g p) → wordsSigned (j .words) q ≡ signedBy (g .secret) p
   unfolding wordsSigned signedBy
   signed-words j e =
       let z : Sized p (lengthOf p) = form-sized p good in
@@ -91,9 +92,9 @@ module _ (g : Settings) (p : List ℕ) (clock : ℕ) (q t b : List ℕ) (open-to
       }
 
   pub check-right : (j : B.Job) → j .length ≡ lengthOf p → j .clock ≡ clock → j .words ≡ wordsAt g p (blocksOf g p) → Right g p clock q t b (checkMove g j q) t
-  unfolding checkMove
+  unfolding checkMove storeJudged
   check-right j l c h =
       let still : holds (j .length) q ≡ true = ap (λ (n : ℕ). holds n q) l ∙ same-holds p q same in
-      let verdict : checkVerdict g (wordsSigned j q) q (j .clock) ≡ checkVerdict g (signedBy (g .secret) p) p clock =
-      check-same p q same g (j .clock) (wordsSigned j q) ∙ rw (signed-words j h, c) in
+      let verdict : checkVerdict g (wordsSigned (j .words) q) q (j .clock) ≡ checkVerdict g (signedBy (g .secret) p) p clock =
+      check-same p q same g (j .clock) (wordsSigned (j .words) q) ∙ rw (signed-words j h, c) in
       rw (still, verdict) (checked-right (checkVerdict g (signedBy (g .secret) p) p clock) j l c refl)

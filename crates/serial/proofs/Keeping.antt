@@ -13,17 +13,16 @@ use Rattle.slots.specs.Slot.{slotCount}
 use Rattle.packets.specs.Packet.{lengthOf}
 use Rattle.settings.specs.Settings.{Settings}
 use Rattle.packets.specs.Discards.{formOf}
-use Rattle.rules.specs.Verdict.{checkVerdict}
 use Rattle.answers.specs.declared.Answer.the-variants as A
 use Rattle.judging.specs.declared.Judged.{Judged}
 use Rattle.judging.specs.declared.Judged.the-variants.{Ended, Passed}
-use Rattle.judging.specs.Judged.{judgedAs}
+use Rattle.judging.specs.Stored.{storeJudged}
 use Rattle.jobs.specs.declared.Job as B
 use Rattle.jobs.specs.declared.Stage as S
 use Rattle.jobs.specs.declared.Stage.the-variants.{Free, Hash, Check, Match}
 use Rattle.jobs.specs.Job.{firstJob, restartedAt, restarted, Placed, JobOurs}
-use Rattle.reread.specs.Reread.{holds, holdsPassed}
-use Rattle.jobs.specs.Moves.{going, done, hashJob, wordsSigned, checkedAs, checkMove, matchJob, commitMove, slotMove, movedAt, moved}
+use Rattle.reread.specs.Reread.{holdsPassed}
+use Rattle.jobs.specs.Moves.{going, done, hashJob, checkedAs, checkMove, matchJob, commitMove, slotMove, movedAt, moved}
 use Rattle.serial.proofs.Same.{form-sized}
 use Rattle.serial.proofs.Opening.{some-block}
 
@@ -33,10 +32,9 @@ hash-placed : (f : Bool) (k n l : ℕ) → ltb (k + 1) (blockCount (l + n)) ≡ 
 hash-placed true k n l e h = (h .0, h .1, ltb-true (k + 1) (blockCount (l + n)) e)
 hash-placed false k n l e h = tt
 
-checked-placed : (f : Bool) (n : ℕ) (x : Judged) (j : B.Job) → JobOurs n (cond f (checkedAs j x) (done (A.Discarded 1)) .job)
-checked-placed true n (Ended a) j = tt
-checked-placed true n Passed j = tt
-checked-placed false n x j = tt
+checked-placed : (n : ℕ) (x : Judged) (j : B.Job) → JobOurs n (checkedAs j x .job)
+checked-placed n (Ended a) j = tt
+checked-placed n Passed j = tt
 
 slot-placed : (f e : Bool) (n k : ℕ) (j : B.Job) (q t : List ℕ) → JobOurs n (cond f (cond e (going (matchJob j k q t)) (commitMove j q t)) (done (A.Discarded 1)) .job)
 unfolding matchJob commitMove
@@ -48,7 +46,7 @@ stage-placed : (g : Settings) (n : ℕ) (x : S.Stage) (j : B.Job) (q t : List �
 unfolding hashJob checkMove slotMove
 stage-placed g n Free j q t e i h = rw i h
 stage-placed g n (Hash k) j q t e i h = rw e (hash-placed (ltb (k + 1) (blockCount (j .length + n))) k n (j .length) refl h)
-stage-placed g n Check j q t e i h = checked-placed (holds (j .length) q) n (judgedAs q (checkVerdict g (wordsSigned j q) q (j .clock))) j
+stage-placed g n Check j q t e i h = checked-placed n (storeJudged g (j .words) (j .length) (j .clock) q) j
 stage-placed g n (Match k) j q t e i h = slot-placed (holdsPassed g (j .length) q) (ltb k (slotCount t)) n k j q t
 
 pub moved-ours : (g : Settings) (n : ℕ) (j : B.Job) (q t : List ℕ) → length (g .secret) ≡ n → JobOurs n j → JobOurs n (moved g j q t .job)
