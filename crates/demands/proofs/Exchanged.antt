@@ -1,11 +1,11 @@
--- Demand 1 of the writer and the reply check: the number of a refusal is the first that its cascade of tests gives, and only where there is none is anything
+-- Demand 1 of the writer and the reply check: the first number that the cascade of tests gives is the answer, and only where there is none is anything
 -- written. So the output after a refusal is the one handed in.
 -- Assumes nothing.
 use mathlib.Core.Path.{_≡_, refl, subst}
 use mathlib.Core.Bool.{Bool, true, false, cond, not, _||_}
 use mathlib.Core.List.{List, [], _∷_}
 use Prim.Native.Nat.{ℕ}
-use borrow.Author.Tests.{eqb-false}
+use borrow.Author.Tests.{eqb-false, ne-eqb}
 use lib.Dec.{eqb, ltb}
 use lib.ListN.{length}
 use Rattle.octets.specs.Runs.{write}
@@ -56,26 +56,37 @@ module _ (secret out : List ℕ) (d : Draft) where
   unfolding writeAnswer writeOutput
   write-so = write-by (eqb (writeRefusal secret out d) 0) refl
 
+  write-refused : (writeRefusal secret out d ≡ 0 → ⊥) → writeAnswer secret out d ≡ NotWritten (writeRefusal secret out d)
+  unfolding writeAnswer
+  write-refused h = rw (ne-eqb _ _ h)
+
 -- ---- the reply check
 
-abbrev Two : ℕ → Type 0
-Two n = n ≡ 2
+-- R2, and the secret is the reason
+abbrev Two : List ℕ → ℕ → Type 0
+Two secret n = (n ≡ 2) × (badSecret secret ≡ true)
 
-failed-so : (v : ℕ) (f : Bool) → WhenUnchecked Two (cond f Right (Failed v))
-failed-so v true = tt
-failed-so v false = tt
+failed-so : (secret : List ℕ) (v : ℕ) (f : Bool) → WhenUnchecked (Two secret) (cond f Right (Failed v))
+failed-so secret v true = tt
+failed-so secret v false = tt
 
-check-by : (v : ℕ) (f h : Bool) → WhenUnchecked Two (cond f (NotChecked 2) (cond h Right (Failed v)))
-check-by v true h = refl
-check-by v false h = failed-so v h
+check-by : (secret : List ℕ) (v : ℕ) (f h : Bool) → badSecret secret ≡ f → WhenUnchecked (Two secret) (cond f (NotChecked 2) (cond h Right (Failed v)))
+check-by secret v true h e = (refl, e)
+check-by secret v false h e = failed-so secret v h
 
-check-so : (secret q r : List ℕ) → WhenUnchecked Two (checkAnswer secret q r)
+check-so : (secret q r : List ℕ) → WhenUnchecked (Two secret) (checkAnswer secret q r)
 unfolding checkAnswer
-check-so secret q r = check-by (failureOf secret q r) (badSecret secret) (eqb (failureOf secret q r) 0)
+check-so secret q r = check-by secret (failureOf secret q r) (badSecret secret) (eqb (failureOf secret q r) 0) refl
+
+check-refused : (secret q r : List ℕ) → badSecret secret ≡ true → checkAnswer secret q r ≡ NotChecked 2
+unfolding checkAnswer
+check-refused secret q r h = rw h
 
 pub exchanging : (secret out : List ℕ) (d : Draft) (q r : List ℕ) → Exchanging secret out d q r
 exchanging secret out d q r =
     record {
+      write-refused = write-refused secret out d;
       write-refusals = λ n e. subst (WhenRefused (Unwritten secret out d (writeOutput secret out d))) e (write-so secret out d);
-      check-refusals = λ n e. subst (WhenUnchecked Two) e (check-so secret q r);
+      check-refused = check-refused secret q r;
+      check-refusals = λ n e. subst (WhenUnchecked (Two secret)) e (check-so secret q r);
     }

@@ -1,10 +1,11 @@
--- Demand 1 of whole requests: a refused answer is the lowest number, a discard is the verdict's, and neither writes table or reply.
+-- Demand 1 of whole requests: the lowest refusal that applies is given before anything is judged, and else the verdict's discard; so a refused answer is that
+-- number, a discard is the verdict's, and neither writes table or reply.
 -- Assumes nothing.
 use mathlib.Core.Path.{_≡_, refl, sym, ap, subst, _∙_}
 use mathlib.Core.Bool.{Bool, true, false, cond, false≢true}
 use mathlib.Core.List.{List, [], _∷_}
 use Prim.Native.Nat.{ℕ}
-use borrow.Author.Tests.{eqb-false}
+use borrow.Author.Tests.{eqb-false, eq-eqb, ne-eqb}
 use lib.Dec.{eqb, ltb}
 use lib.IntN.{ℤ}
 use lib.ListN.{length}
@@ -110,9 +111,20 @@ module _ (g : Settings) (t b p : List ℕ) (clock : ℕ) where
   unfolding handleTable handleReply
   kept a e = (ap (tableAs p t) e, ap (replyAs (g .secret) p b) e)
 
+  pub refused : (refusalOf g t b ≡ 0 → ⊥) → handleAnswer g t b p clock ≡ A.Refused (refusalOf g t b)
+  unfolding handleAnswer
+  refused h = rw (ne-eqb _ _ h)
+
+  pub judged : refusalOf g t b ≡ 0 → handleAnswer g t b p clock ≡ answerOf p t (verdictOf g (signedBy (g .secret) p) p clock)
+  unfolding handleAnswer
+  judged h = rw (eq-eqb _ _ h)
+
   pub handling : Handling g t b p clock
   handling =
       record {
+        refused = refused;
+        discarded = λ z d e. judged z ∙ ap (answerOf p t) e;
+        found-stale = λ z k e. judged z ∙ ap (answerOf p t) e;
         refusals = λ n e. let q = number-of n e in (rw (q .0) (refusal-one g t b (q .1)), q .0);
         discards = λ d e. let x = verdict-of (A.Discarded d) e in (among-of _ d _ x (verdict-among g p clock (signedBy (g .secret) p)), x);
         stale = λ k e. verdict-of (A.Stale k) e;

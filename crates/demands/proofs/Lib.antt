@@ -1,14 +1,15 @@
+pub mod Discarding
+pub mod Handled
 pub mod Replied
 pub mod Carried
 pub mod Acked
 pub mod Silent
 pub mod Second
-pub mod Discarding
-pub mod Handled
 pub mod Exchanged
 pub mod Quitting
 pub mod Telling
 pub mod Stepped
 pub mod Opened
+pub mod Started
 pub mod Scheduled
 pub mod First

@@ -5,7 +5,7 @@ use mathlib.Core.Path.{_≡_, refl, subst}
 use mathlib.Core.Bool.{Bool, true, false, cond, not}
 use mathlib.Core.List.{List, [], _∷_}
 use Prim.Native.Nat.{ℕ}
-use borrow.Author.Tests.{eqb-false}
+use borrow.Author.Tests.{eqb-false, eq-eqb, ne-eqb}
 use lib.Dec.{eqb}
 use lib.ListN.{length}
 use Rattle.survey.specs.Types.{member}
@@ -57,16 +57,24 @@ module _ (s : D.Scheduler) (p store : List ℕ) where
   discarded-by false h x k w e = tt
 
   module _ (clock : ℕ) where
-    open-refused : WhenRefused (Refusing (openCalled s p clock store) (openStore s p store)) (openCalled s p clock store .outcome)
+    refused-so : WhenRefused (Refusing (openCalled s p clock store) (openStore s p store)) (openCalled s p clock store .outcome)
     unfolding openCalled openStore
-    open-refused = refused-by (eqb number 0) (eqb (formOf p) 0) _ _ _ refl
+    refused-so = refused-by (eqb number 0) (eqb (formOf p) 0) _ _ _ refl
 
-    open-discarded : WhenDiscarded (Discards (openCalled s p clock store) (openStore s p store)) (openCalled s p clock store .outcome)
+    discarded-so : WhenDiscarded (Discards (openCalled s p clock store) (openStore s p store)) (openCalled s p clock store .outcome)
     unfolding openCalled openStore
-    open-discarded = discarded-by (eqb number 0) (eqb (formOf p) 0) _ _ _ refl
+    discarded-so = discarded-by (eqb number 0) (eqb (formOf p) 0) _ _ _ refl
 
     pub open-refusals : (n : ℕ) → openCalled s p clock store .outcome ≡ O.Refused n → Refusing (openCalled s p clock store) (openStore s p store) n
-    open-refusals n e = subst (WhenRefused (Refusing (openCalled s p clock store) (openStore s p store))) e open-refused
+    open-refusals n e = subst (WhenRefused (Refusing (openCalled s p clock store) (openStore s p store))) e refused-so
 
     pub open-discards : (d : ℕ) → openCalled s p clock store .outcome ≡ O.Discarded d → Discards (openCalled s p clock store) (openStore s p store) d
-    open-discards d e = subst (WhenDiscarded (Discards (openCalled s p clock store) (openStore s p store))) e open-discarded
+    open-discards d e = subst (WhenDiscarded (Discards (openCalled s p clock store) (openStore s p store))) e discarded-so
+
+    pub open-refused : (number ≡ 0 → ⊥) → openCalled s p clock store ≡ called s (O.Refused number)
+    unfolding openCalled
+    open-refused h = rw (ne-eqb _ _ h)
+
+    pub open-discarded : number ≡ 0 → (formOf p ≡ 0 → ⊥) → openCalled s p clock store ≡ called s (O.Discarded (formOf p))
+    unfolding openCalled
+    open-discarded z h = rw (eq-eqb _ _ z, ne-eqb _ _ h)

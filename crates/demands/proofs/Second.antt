@@ -4,7 +4,6 @@ use mathlib.Core.Path.{_≡_, refl, ap, _∙_}
 use mathlib.Core.Bool.{true, false}
 use mathlib.Core.List.{List}
 use Prim.Native.Nat.{ℕ, _<_}
-use borrow.Author.Tests.{eq-eqb, ne-eqb}
 use lib.IntN.{ℤ}
 use lib.ListN.{length, getD, replicate}
 use mir.Syntax.{w8}
@@ -16,8 +15,6 @@ use Rattle.changes.specs.Change as S
 use Rattle.causes.proofs.Passed.{filter-first}
 use Rattle.packets.specs.Packet.{codeOf, areaOf}
 use Rattle.settings.specs.Settings.{Settings}
-use Rattle.rules.specs.Verdict.{verdictOf}
-use Rattle.rules.specs.Discards.{signedBy}
 use Rattle.effects.specs.Matching.{matchesIn}
 use Rattle.effects.specs.Changes.{alterationOf, changeOf, changeMatching}
 use Rattle.effects.proofs.Outcomes.{slot-matching, slot-other}
@@ -25,14 +22,14 @@ use Rattle.effects.proofs.Altered as E
 use Rattle.answers.specs.declared.Answer as D
 use Rattle.answers.specs.declared.Answer.the-variants as A
 use Rattle.answers.specs.Replies.{replyAs}
-use Rattle.handler.specs.Refusals.{refusalOf}
-use Rattle.handler.specs.Handle.{answerOf, tableAs, handleAnswer, handleTable, handleReply}
+use Rattle.handler.specs.Handle.{tableAs, handleAnswer, handleTable, handleReply}
 use Rattle.handler.proofs.Bounds.{reply-bound}
 use Rattle.requests.specs.declared.Written.the-variants.{Done}
 use Rattle.requests.specs.Writer.{Draft, writeRefusal, requestOf, writeAnswer, writeOutput}
 use Rattle.exchanges.proofs.Requests.{written-form, written-signed, written-maced}
 use Rattle.exchanges.proofs.Outputs.{length-request}
 use Rattle.demands.specs.Demand2.{Bytes, Altered, Judging, Demand2}
+use Rattle.demands.proofs.Handled.{refused, judged}
 use Rattle.demands.proofs.Carried.{nak-size, ack-size, carries}
 use Rattle.demands.proofs.Acked.{acked}
 use Rattle.demands.proofs.Silent.{silent-table-by, silent-reply-by, size-is}
@@ -55,14 +52,6 @@ module _ (g : Settings) (t b p : List ℕ) (clock : ℕ) where
   reply-of : (a : D.Answer) → handleAnswer g t b p clock ≡ a → handleReply g t b p clock ≡ replyAs (g .secret) p b a
   unfolding handleReply
   reply-of a e = ap (replyAs (g .secret) p b) e
-
-  refused : (refusalOf g t b ≡ 0 → ⊥) → handleAnswer g t b p clock ≡ A.Refused (refusalOf g t b)
-  unfolding handleAnswer
-  refused h = rw (ne-eqb _ _ h)
-
-  judged : refusalOf g t b ≡ 0 → handleAnswer g t b p clock ≡ answerOf p t (verdictOf g (signedBy (g .secret) p) p clock)
-  unfolding handleAnswer
-  judged h = rw (eq-eqb _ _ h)
 
   module _ (m n : ℕ) (skew : ℤ) (ack : handleAnswer g t b p clock ≡ A.Ack m skew n) (k : ℕ) (l : k < slotCount t) (h : matchesIn (areaOf p) t k ≡ true) where
     after : (code : ℕ) → codeOf p ≡ code → handleTable g t b p clock ≡ changeMatching code (areaOf p) t

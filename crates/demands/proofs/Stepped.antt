@@ -5,7 +5,7 @@ use mathlib.Core.Path.{_≡_, refl, ap, subst}
 use mathlib.Core.Bool.{Bool, true, false, cond, not, _||_}
 use mathlib.Core.List.{List, [], _∷_}
 use Prim.Native.Nat.{ℕ}
-use borrow.Author.Tests.{eqb-false}
+use borrow.Author.Tests.{eqb-false, eq-eqb, ne-eqb}
 use lib.Dec.{eqb, ltb}
 use lib.ListN.{length}
 use Rattle.survey.specs.Types.{member}
@@ -23,8 +23,9 @@ use Rattle.scheduler.specs.declared.Outcome.the-variants as O
 use Rattle.scheduler.specs.Scheduler.{settingsOf, jobAt, openAt, withJob, partOf}
 use Rattle.scheduler.specs.Refusals.{stepRefusal}
 use Rattle.scheduler.specs.Calls.{called, steppedAs, movedOf, stepCalled, stepTable, stepReply}
+use Rattle.demands.specs.Demand1.{Comes}
 use Rattle.demands.proofs.Telling.{WhenRefused, WhenDone}
-use Rattle.demands.proofs.Quitting.{QuitAs, move-quits}
+use Rattle.demands.proofs.Quitting.{QuitAs, move-quits, move-ends}
 
 one-of : (x y z w : Bool) → (_≡_ {A = ℕ} (cond x 1 (cond y 4 (cond z 5 (cond w 7 0)))) 0 → ⊥) → member (cond x 1 (cond y 4 (cond z 5 (cond w 7 0)))) (1 ∷ 4 ∷ 5 ∷ 7 ∷ []) ≡ true
 one-of true y z w h = refl
@@ -45,13 +46,12 @@ module _ (s : D.Scheduler) (t b store : List ℕ) (j : ℕ) where
   abbrev Refusing : C.Called → List ℕ → List ℕ → ℕ → Type 0
   Refusing c u v n = (member n (1 ∷ 4 ∷ 5 ∷ 7 ∷ []) ≡ true) × (n ≡ number) × (c .scheduler ≡ s) × (u ≡ t) × (v ≡ b)
 
-  -- e is how the job's move ended
-  abbrev Quiet : E.Ending → C.Called → List ℕ → List ℕ → A′.Answer → Type 0
-  Quiet e c u v (A.Refused n) = Unit {0}
-  Quiet e c u v (A.Discarded d) = (member d (1 ∷ 4 ∷ 5 ∷ 6 ∷ []) ≡ true) × (e ≡ K.Done (A.Discarded d)) × (c .scheduler ≡ withJob s j freeJob) × (u ≡ t) × (v ≡ b)
-  Quiet e c u v (A.Stale k) = (e ≡ K.Done (A.Stale k)) × (c .scheduler ≡ withJob s j freeJob) × (u ≡ t) × (v ≡ b)
-  Quiet e c u v (A.Nak c′ k n) = Unit {0}
-  Quiet e c u v (A.Ack m k n) = Unit {0}
+  abbrev Quiet : C.Called → List ℕ → List ℕ → A′.Answer → Type 0
+  Quiet c u v (A.Refused n) = ⊥
+  Quiet c u v (A.Discarded d) = (member d (1 ∷ 4 ∷ 5 ∷ 6 ∷ []) ≡ true) × Comes s j store (A.Discarded d) × (c .scheduler ≡ withJob s j freeJob) × (u ≡ t) × (v ≡ b)
+  Quiet c u v (A.Stale k) = Comes s j store (A.Stale k) × (c .scheduler ≡ withJob s j freeJob) × (u ≡ t) × (v ≡ b)
+  Quiet c u v (A.Nak c′ k n) = Unit {0}
+  Quiet c u v (A.Ack m k n) = Unit {0}
 
   abbrev shown : Bool → M.Moved → E.Ending → C.Called
   shown f m e = cond f (steppedAs s j m e) (called s (O.Refused number))
@@ -68,12 +68,12 @@ module _ (s : D.Scheduler) (t b store : List ℕ) (j : ℕ) where
   freed : (m : M.Moved) → m .job ≡ freeJob → withJob s j (m .job) ≡ withJob s j freeJob
   freed m h = ap (withJob s j) h
 
-  quiet-by : (f : Bool) (m : M.Moved) (e : E.Ending) (u : List ℕ) → QuitAs (m .job) t u e
-      → WhenDone (Quiet e (shown f m e) (cond f u t) (replied f e)) (shown f m e .outcome)
+  quiet-by : (f : Bool) (m : M.Moved) (e : E.Ending) (u : List ℕ) → QuitAs (Comes s j store) (m .job) t u e
+      → WhenDone (Quiet (shown f m e) (cond f u t) (replied f e)) (shown f m e .outcome)
   quiet-by true m K.Going u h = tt
-  quiet-by true m (K.Done (A.Refused n)) u h = tt
-  quiet-by true m (K.Done (A.Discarded d)) u h = (h .0, refl, freed m (h .1), h .2, refl)
-  quiet-by true m (K.Done (A.Stale k)) u h = (refl, freed m (h .0), h .1, refl)
+  quiet-by true m (K.Done (A.Refused n)) u h = h
+  quiet-by true m (K.Done (A.Discarded d)) u h = (h .0, h .1, freed m (h .2), h .3, refl)
+  quiet-by true m (K.Done (A.Stale k)) u h = (h .0, freed m (h .1), h .2, refl)
   quiet-by true m (K.Done (A.Nak c k n)) u h = tt
   quiet-by true m (K.Done (A.Ack i k n)) u h = tt
   quiet-by false m e u h = tt
@@ -84,16 +84,27 @@ module _ (s : D.Scheduler) (t b store : List ℕ) (j : ℕ) where
   abbrev after : List ℕ
   after = movedTable (settingsOf s) (jobAt (s .jobs) j) (partOf j store) t
 
-  step-refused : WhenRefused (Refusing (stepCalled s j t b store) (stepTable s j t b store) (stepReply s j t b store)) (stepCalled s j t b store .outcome)
+  refused-so : WhenRefused (Refusing (stepCalled s j t b store) (stepTable s j t b store) (stepReply s j t b store)) (stepCalled s j t b store .outcome)
   unfolding stepCalled stepTable stepReply
-  step-refused = refused-by (eqb number 0) (movedOf s j t store) ending after refl
+  refused-so = refused-by (eqb number 0) (movedOf s j t store) ending after refl
 
-  step-quiet : WhenDone (Quiet ending (stepCalled s j t b store) (stepTable s j t b store) (stepReply s j t b store)) (stepCalled s j t b store .outcome)
+  step-quiet : WhenDone (Quiet (stepCalled s j t b store) (stepTable s j t b store) (stepReply s j t b store)) (stepCalled s j t b store .outcome)
   unfolding stepCalled stepTable stepReply
   step-quiet = quiet-by (eqb number 0) (movedOf s j t store) ending after (move-quits (settingsOf s) (jobAt (s .jobs) j) (partOf j store) t)
 
   pub step-refusals : (n : ℕ) → stepCalled s j t b store .outcome ≡ O.Refused n → Refusing (stepCalled s j t b store) (stepTable s j t b store) (stepReply s j t b store) n
-  step-refusals n e = subst (WhenRefused (Refusing (stepCalled s j t b store) (stepTable s j t b store) (stepReply s j t b store))) e step-refused
+  step-refusals n e = subst (WhenRefused (Refusing (stepCalled s j t b store) (stepTable s j t b store) (stepReply s j t b store))) e refused-so
 
-  pub step-answers : (a : A′.Answer) → stepCalled s j t b store .outcome ≡ O.Done a → Quiet ending (stepCalled s j t b store) (stepTable s j t b store) (stepReply s j t b store) a
-  step-answers a e = subst (WhenDone (Quiet ending (stepCalled s j t b store) (stepTable s j t b store) (stepReply s j t b store))) e step-quiet
+  pub step-answers : (a : A′.Answer) → stepCalled s j t b store .outcome ≡ O.Done a → Quiet (stepCalled s j t b store) (stepTable s j t b store) (stepReply s j t b store) a
+  step-answers a e = subst (WhenDone (Quiet (stepCalled s j t b store) (stepTable s j t b store) (stepReply s j t b store))) e step-quiet
+
+  pub step-refused : (number ≡ 0 → ⊥) → stepCalled s j t b store ≡ called s (O.Refused number)
+  unfolding stepCalled
+  step-refused h = rw (ne-eqb _ _ h)
+
+  done-outcome : (m : M.Moved) (e : E.Ending) (a : A′.Answer) → e ≡ K.Done a → steppedAs s j m e .outcome ≡ O.Done a
+  done-outcome m e a h = ap (λ (x : E.Ending). steppedAs s j m x .outcome) h
+
+  pub step-comes : (a : A′.Answer) → number ≡ 0 → Comes s j store a → stepCalled s j t b store .outcome ≡ O.Done a
+  unfolding stepCalled
+  step-comes a z h = rw (eq-eqb _ _ z) (done-outcome (movedOf s j t store) ending a (move-ends (settingsOf s) (jobAt (s .jobs) j) (partOf j store) t a h))

@@ -1,9 +1,9 @@
 -- Demand 1, as one record: "What cannot be handled is discarded (D1 to D6) or refused (R1 to R13) under document 01's numbers, in its order, and then the session
--- table, the reply buffer and the packet store stay as they were." For each call: which numbers it can answer, which one it is (the lowest, or first, that
--- applies, by the definition named), and that what was lent then equals what was handed in. That no call faults or hangs is the prover's own claim for
--- every function of the library.
+-- table, the reply buffer and the packet store stay as they were." For each call: which number it gives where one applies (`refused`, `discarded`: the lowest,
+-- or first, by the definition named), that it gives a number only then (`refusals`, `discards`), and that what was lent then equals what was handed in. A
+-- step is lent the store to read alone. That no call faults or hangs is the prover's own claim for every function of the library.
 -- Assumes nothing.
-use mathlib.Core.Bool.{true}
+use mathlib.Core.Bool.{true, false}
 use mathlib.Core.List.{List, [], _∷_}
 use mathlib.Core.Path.{_≡_}
 use Prim.Native.Nat.{ℕ}
@@ -14,11 +14,12 @@ use Rattle.records.specs.Record.{Session}
 use Rattle.sessions.specs.Session.{insertAnswer, insertTable, removeAnswer, removeTable}
 use Rattle.sessions.specs.declared.Inserted.the-variants.{NotInserted}
 use Rattle.sessions.specs.declared.Removed.the-variants.{NotRemoved}
-use Rattle.settings.specs.Settings.{Settings}
+use Rattle.settings.specs.Settings.{Settings, badSecret}
 use Rattle.packets.specs.Discards.{formOf}
 use Rattle.rules.specs.Discards.{signedBy}
 use Rattle.rules.specs.Verdict.{verdictOf}
 use Rattle.rules.specs.declared.Verdict.the-variants as J
+use Rattle.answers.specs.declared.Answer.{Answer}
 use Rattle.answers.specs.declared.Answer.the-variants as A
 use Rattle.handler.specs.Refusals.{refusalOf}
 use Rattle.handler.specs.Handle.{handleAnswer, handleTable, handleReply}
@@ -26,20 +27,30 @@ use Rattle.requests.specs.declared.Written.the-variants.{NotWritten}
 use Rattle.reply_check.specs.declared.Checked.the-variants.{NotChecked}
 use Rattle.requests.specs.Writer.{Draft, writeRefusal, writeAnswer, writeOutput}
 use Rattle.reply_check.specs.ReplyCheck.{checkAnswer}
-use Rattle.jobs.specs.declared.Ending.the-variants as K
+use Rattle.reread.specs.Reread.{holdsPassed}
+use Rattle.judging.specs.declared.Judged.the-variants.{Ended}
+use Rattle.judging.specs.Stored.{storeJudged}
+use Rattle.jobs.specs.declared.Job as B
+use Rattle.jobs.specs.declared.Stage as S
+use Rattle.jobs.specs.declared.Stage.the-variants.{Free, Hash, Check, Match}
 use Rattle.jobs.specs.Job.{freeJob}
 use Rattle.scheduler.specs.declared.Scheduler as D
 use Rattle.scheduler.specs.declared.Outcome.the-variants.{Refused, Discarded, Done}
-use Rattle.scheduler.specs.Scheduler.{openAt, withJob}
-use Rattle.scheduler.specs.Refusals.{makeRefusal, openRefusal, stepRefusal}
-use Rattle.scheduler.specs.Calls.{openCalled, openStore, movedOf, stepCalled, stepTable, stepReply, dropCalled, startCalled, endCalled}
+use Rattle.scheduler.specs.Scheduler.{settingsOf, jobAt, openAt, withJob, partOf}
+use Rattle.scheduler.specs.Refusals.{makeRefusal, openRefusal, stepRefusal, dropRefusal}
+use Rattle.scheduler.specs.Making.{makeAnswer}
+use Rattle.scheduler.specs.Calls.{called, openCalled, openStore, stepCalled, stepTable, stepReply, dropCalled, startCalled, endCalled}
 
 -- whole requests
 pub record Handling (g : Settings) (t b p : List ℕ) (clock : ℕ) : Type 0 where
+  -- a refusal comes before any judgement of the packet
+  pub refused : (refusalOf g t b ≡ 0 → ⊥) → handleAnswer g t b p clock ≡ A.Refused (refusalOf g t b)
+  pub discarded : refusalOf g t b ≡ 0 → (d : ℕ) → verdictOf g (signedBy (g .secret) p) p clock ≡ J.Discarded d → handleAnswer g t b p clock ≡ A.Discarded d
+  -- D6 with a usable stamp
+  pub found-stale : refusalOf g t b ≡ 0 → (skew : ℤ) → verdictOf g (signedBy (g .secret) p) p clock ≡ J.Stale skew → handleAnswer g t b p clock ≡ A.Stale skew
   pub refusals : (n : ℕ) → handleAnswer g t b p clock ≡ A.Refused n → (member n (1 ∷ 2 ∷ 3 ∷ 4 ∷ []) ≡ true) × (n ≡ refusalOf g t b)
   pub discards : (d : ℕ) → handleAnswer g t b p clock ≡ A.Discarded d
       → (member d (1 ∷ 2 ∷ 3 ∷ 4 ∷ 5 ∷ 6 ∷ []) ≡ true) × (verdictOf g (signedBy (g .secret) p) p clock ≡ J.Discarded d)
-  -- D6 with a usable stamp
   pub stale : (skew : ℤ) → handleAnswer g t b p clock ≡ A.Stale skew → verdictOf g (signedBy (g .secret) p) p clock ≡ J.Stale skew
   pub refused-kept : (n : ℕ) → handleAnswer g t b p clock ≡ A.Refused n → (handleTable g t b p clock ≡ t) × (handleReply g t b p clock ≡ b)
   pub discarded-kept : (d : ℕ) → handleAnswer g t b p clock ≡ A.Discarded d → (handleTable g t b p clock ≡ t) × (handleReply g t b p clock ≡ b)
@@ -47,29 +58,56 @@ pub record Handling (g : Settings) (t b p : List ℕ) (clock : ℕ) : Type 0 whe
 
 -- the writer and the reply check
 pub record Exchanging (secret out : List ℕ) (d : Draft) (q r : List ℕ) : Type 0 where
+  pub write-refused : (writeRefusal secret out d ≡ 0 → ⊥) → writeAnswer secret out d ≡ NotWritten (writeRefusal secret out d)
   pub write-refusals : (n : ℕ) → writeAnswer secret out d ≡ NotWritten n
       → (member n (2 ∷ 4 ∷ 12 ∷ 13 ∷ []) ≡ true) × (n ≡ writeRefusal secret out d) × (writeOutput secret out d ≡ out)
-  pub check-refusals : (n : ℕ) → checkAnswer secret q r ≡ NotChecked n → n ≡ 2
+  pub check-refused : badSecret secret ≡ true → checkAnswer secret q r ≡ NotChecked 2
+  pub check-refusals : (n : ℕ) → checkAnswer secret q r ≡ NotChecked n → (n ≡ 2) × (badSecret secret ≡ true)
+
+-- what a step of job j comes to before any session is changed, by the job's part q of the store: in Check its verdict; in Match and Commit D1, where the store
+-- read again no longer holds
+abbrev pub ComesTo : Settings → B.Job → List ℕ → Answer → S.Stage → Type 0
+ComesTo g j q a Free = ⊥
+ComesTo g j q a (Hash k) = ⊥
+ComesTo g j q a Check = storeJudged g (j .words) (j .length) (j .clock) q ≡ Ended a
+ComesTo g j q a (Match k) = (holdsPassed g (j .length) q ≡ false) × (a ≡ A.Discarded 1)
+
+-- the same of job j of a scheduler
+abbrev pub Comes : D.Scheduler → ℕ → List ℕ → Answer → Type 0
+Comes s j store a = ComesTo (settingsOf s) (jobAt (s .jobs) j) (partOf j store) a (jobAt (s .jobs) j .stage)
 
 -- the calls on a scheduler
 pub record Scheduling (s : D.Scheduler) (t b store : List ℕ) : Type 0 where
-  pub make-refusals : (g : Settings) → member (makeRefusal g) (0 ∷ 2 ∷ 3 ∷ []) ≡ true
+  pub make-refusals : (g : Settings) → (makeAnswer g .refusal ≡ makeRefusal g) × (member (makeRefusal g) (0 ∷ 2 ∷ 3 ∷ []) ≡ true)
+  pub open-refused : (p : List ℕ) (clock : ℕ) → (openRefusal (openAt (s .jobs)) (length store) ≡ 0 → ⊥)
+      → openCalled s p clock store ≡ called s (Refused (openRefusal (openAt (s .jobs)) (length store)))
   pub open-refusals : (p : List ℕ) (clock n : ℕ) → openCalled s p clock store .outcome ≡ Refused n
       → (member n (5 ∷ 6 ∷ []) ≡ true) × (n ≡ openRefusal (openAt (s .jobs)) (length store)) × (openCalled s p clock store .scheduler ≡ s) × (openStore s p store ≡ store)
+  pub open-discarded : (p : List ℕ) (clock : ℕ) → openRefusal (openAt (s .jobs)) (length store) ≡ 0 → (formOf p ≡ 0 → ⊥)
+      → openCalled s p clock store ≡ called s (Discarded (formOf p))
   pub open-discards : (p : List ℕ) (clock d : ℕ) → openCalled s p clock store .outcome ≡ Discarded d
       → (member d (1 ∷ 2 ∷ 3 ∷ []) ≡ true) × (d ≡ formOf p) × (openCalled s p clock store .scheduler ≡ s) × (openStore s p store ≡ store)
+  pub step-refused : (j : ℕ) → (stepRefusal (openAt (s .jobs)) (length store) j t b ≡ 0 → ⊥)
+      → stepCalled s j t b store ≡ called s (Refused (stepRefusal (openAt (s .jobs)) (length store) j t b))
   pub step-refusals : (j n : ℕ) → stepCalled s j t b store .outcome ≡ Refused n
       → (member n (1 ∷ 4 ∷ 5 ∷ 7 ∷ []) ≡ true) × (n ≡ stepRefusal (openAt (s .jobs)) (length store) j t b)
       × (stepCalled s j t b store .scheduler ≡ s) × (stepTable s j t b store ≡ t) × (stepReply s j t b store ≡ b)
-  -- a discard by a step is that of the job's move, and frees its job
+  -- a request in work is not refused later
+  pub step-admitted : (j n : ℕ) → stepCalled s j t b store .outcome ≡ Done (A.Refused n) → ⊥
+  pub step-discarded : (j : ℕ) (a : Answer) → stepRefusal (openAt (s .jobs)) (length store) j t b ≡ 0 → Comes s j store a
+      → stepCalled s j t b store .outcome ≡ Done a
+  -- a discard by a step frees its job
   pub step-discards : (j d : ℕ) → stepCalled s j t b store .outcome ≡ Done (A.Discarded d)
-      → (member d (1 ∷ 4 ∷ 5 ∷ 6 ∷ []) ≡ true) × (movedOf s j t store .ending ≡ K.Done (A.Discarded d))
+      → (member d (1 ∷ 4 ∷ 5 ∷ 6 ∷ []) ≡ true) × Comes s j store (A.Discarded d)
       × (stepCalled s j t b store .scheduler ≡ withJob s j freeJob) × (stepTable s j t b store ≡ t) × (stepReply s j t b store ≡ b)
   pub step-stale : (j : ℕ) (skew : ℤ) → stepCalled s j t b store .outcome ≡ Done (A.Stale skew)
-      → (movedOf s j t store .ending ≡ K.Done (A.Stale skew)) × (stepCalled s j t b store .scheduler ≡ withJob s j freeJob) × (stepTable s j t b store ≡ t) × (stepReply s j t b store ≡ b)
-  pub drop-refusals : (j n : ℕ) → dropCalled s j .outcome ≡ Refused n → (n ≡ 7) × (dropCalled s j .scheduler ≡ s)
+      → Comes s j store (A.Stale skew) × (stepCalled s j t b store .scheduler ≡ withJob s j freeJob) × (stepTable s j t b store ≡ t) × (stepReply s j t b store ≡ b)
+  pub drop-refused : (j : ℕ) → (dropRefusal (openAt (s .jobs)) j ≡ 0 → ⊥) → dropCalled s j ≡ called s (Refused (dropRefusal (openAt (s .jobs)) j))
+  pub drop-refusals : (j n : ℕ) → dropCalled s j .outcome ≡ Refused n → (n ≡ 7) × (n ≡ dropRefusal (openAt (s .jobs)) j) × (dropCalled s j .scheduler ≡ s)
+  pub start-refused : (x : Session) (n : ℕ) → insertAnswer x t ≡ NotInserted n → startCalled s x t ≡ called s (Refused n)
   pub start-refusals : (x : Session) (n : ℕ) → startCalled s x t .outcome ≡ Refused n
       → (member n (1 ∷ 8 ∷ 9 ∷ 10 ∷ []) ≡ true) × (insertAnswer x t ≡ NotInserted n) × (startCalled s x t .scheduler ≡ s) × (insertTable x t ≡ t)
+  pub end-refused : (k n : ℕ) → removeAnswer k t ≡ NotRemoved n → endCalled s k t ≡ called s (Refused n)
   pub end-refusals : (k n : ℕ) → endCalled s k t .outcome ≡ Refused n
       → (member n (1 ∷ 11 ∷ []) ≡ true) × (removeAnswer k t ≡ NotRemoved n) × (endCalled s k t .scheduler ≡ s) × (removeTable k t ≡ t)
 
