@@ -14,7 +14,7 @@ use Rattle.slots.proofs.Places.{slot-written-other, slot-short}
 use Rattle.changes.specs.declared.Alteration.{Alteration}
 use Rattle.changes.specs.declared.Change.{Change}
 use Rattle.changes.specs.declared.Change.the-variants.{End, Alter}
-use Rattle.changes.specs.Change.{altered, changed, changeAt, marked, changeMarked}
+use Rattle.changes.specs.Change.{altered, changed, changeAt, changeWhere, marked}
 use Rattle.changes.proofs.Alter.{length-altered}
 
 pub length-changed : (p : List ℕ) (c : Change) (s : List ℕ) → length s ≡ 192 → length (changed p c s) ≡ 192
@@ -49,25 +49,25 @@ module _ (p : List ℕ) (c : Change) where
 
   -- ---- the walk
 
-  module _ (marks : List ℕ) where
-    long-by : (b : Bool) (k : ℕ) (u : List ℕ) → length (cond b (changeAt p c k u) u) ≡ length u
-    long-by true k u = length-changeAt k u
-    long-by false k u = refl
+  long-by : (b : Bool) (k : ℕ) (u : List ℕ) → length (cond b (changeAt p c k u) u) ≡ length u
+  long-by true k u = length-changeAt k u
+  long-by false k u = refl
 
-    pub length-changeMarked : (k : ℕ) (t : List ℕ) → length (changeMarked p c marks k t) ≡ length t
-    unfolding changeMarked
-    length-changeMarked zero t = refl
-    length-changeMarked (suc k) t = long-by (marked marks t k) k (changeMarked p c marks k t) ∙ length-changeMarked k t
+  pub other-by : (b : Bool) (j k : ℕ) (u : List ℕ) → (j ≡ k → ⊥) → slot j (cond b (changeAt p c k u) u) ≡ slot j u
+  other-by true j k u n = change-other j k u n
+  other-by false j k u n = refl
 
-    pub other-by : (b : Bool) (j k : ℕ) (u : List ℕ) → (j ≡ k → ⊥) → slot j (cond b (changeAt p c k u) u) ≡ slot j u
-    other-by true j k u n = change-other j k u n
-    other-by false j k u n = refl
+  module _ (f : ℕ → Bool) where
+    pub length-changeWhere : (k : ℕ) (t : List ℕ) → length (changeWhere p c f k t) ≡ length t
+    unfolding changeWhere
+    length-changeWhere zero t = refl
+    length-changeWhere (suc k) t = long-by (f k) k (changeWhere p c f k t) ∙ length-changeWhere k t
 
     -- slots from k on
-    pub slot-later : (j k : ℕ) (t : List ℕ) → k ≤ j → slot j (changeMarked p c marks k t) ≡ slot j t
-    unfolding changeMarked
+    pub slot-later : (j k : ℕ) (t : List ℕ) → k ≤ j → slot j (changeWhere p c f k t) ≡ slot j t
+    unfolding changeWhere
     slot-later j zero t h = refl
-    slot-later j (suc k) t h = other-by (marked marks t k) j k (changeMarked p c marks k t) (λ e. omega arith) ∙ slot-later j k t (omega arith)
+    slot-later j (suc k) t h = other-by (f k) j k (changeWhere p c f k t) (λ e. omega arith) ∙ slot-later j k t (omega arith)
 
 -- ---- the test of a slot
 

@@ -13,11 +13,11 @@ use Rattle.slots.specs.Slot.{slotCount, slot, live}
 use Rattle.slots.proofs.Count.{Counted}
 use Rattle.criteria.specs.Marks.{countTo}
 use Rattle.changes.specs.declared.Change.{Change}
-use Rattle.changes.specs.Change.{changeAt, marked, changeMarked, countMarked}
-use Rattle.changes.proofs.Slots.{length-changeMarked, slot-later}
+use Rattle.changes.specs.Change.{changeAt, changeWhere, marked, changeMarked, countMarked}
+use Rattle.changes.proofs.Slots.{length-changeWhere, slot-later}
 
 pub none-changed : (p : List ℕ) (c : Change) (marks t : List ℕ) → t ≡ changeMarked p c marks 0 t
-unfolding changeMarked
+unfolding changeMarked changeWhere
 none-changed p c marks t = refl
 
 pub none-counted : (marks t : List ℕ) → 0 ≡ countMarked marks 0 t
@@ -27,22 +27,24 @@ none-counted marks t = refl
 -- t₀ is the table at the start, t after the first k slots
 module _ (p : List ℕ) (c : Change) (marks t t₀ : List ℕ) (k : ℕ) (e : t ≡ changeMarked p c marks k t₀) where
   pub walk-long : length t ≡ length t₀
-  walk-long = ap length e ∙ length-changeMarked p c marks k t₀
+  unfolding changeMarked
+  walk-long = ap length e ∙ length-changeWhere p c (marked marks t₀) k t₀
 
   pub walk-fits : (n : ℕ) → Counted n (length t₀) → k < n → (k + 1) * 192 ≤ length t
   walk-fits n w h = rw walk-long (omega arith)
 
   same-test : marked marks t k ≡ marked marks t₀ k
-  same-test = ap (λ (s : List ℕ). eqb (getD marks k 0) 1 && live s) (ap (slot k) e ∙ slot-later p c marks k k t₀ (omega arith))
+  unfolding changeMarked
+  same-test = ap (λ (s : List ℕ). eqb (getD marks k 0) 1 && live s) (ap (slot k) e ∙ slot-later p c (marked marks t₀) k k t₀ (omega arith))
 
   -- the slot at hand is marked and live, or not: t′ is the table after it, n the count before it
   module _ (r : Bool) (q : r ≡ marked marks t k) where
     pub turn-changed : (t′ u : List ℕ) → t′ ≡ u → u ≡ changeAt p c k t → r ≡ true → t′ ≡ changeMarked p c marks (k + 1) t₀
-    unfolding changeMarked
+    unfolding changeMarked changeWhere
     turn-changed t′ u d g h = rw (add-one, ← same-test, ← q, h) (d ∙ g ∙ ap (changeAt p c k) e)
 
     pub turn-kept : (t′ : List ℕ) → t′ ≡ t → r ≡ false → t′ ≡ changeMarked p c marks (k + 1) t₀
-    unfolding changeMarked
+    unfolding changeMarked changeWhere
     turn-kept t′ d h = rw (add-one, ← same-test, ← q, h) (d ∙ e)
 
     pub turn-counted : (n n′ : ℕ) → n ≡ countMarked marks k t₀ → n′ ≡ n + 1 → r ≡ true → n′ ≡ countMarked marks (k + 1) t₀

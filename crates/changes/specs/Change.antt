@@ -41,14 +41,18 @@ changed p (Alter a) s = altered p a s
 unfoldable pub changeAt : List ℕ → Change → ℕ → List ℕ → List ℕ
 changeAt p c k t = write t (k * 192) (changed p c (slot k t))
 
+-- the table with each of its first k slots that f names changed
+unfoldable pub changeWhere : List ℕ → Change → (ℕ → Bool) → ℕ → List ℕ → List ℕ
+changeWhere p c f zero t = t
+changeWhere p c f (suc k) t = cond (f k) (changeAt p c k (changeWhere p c f k t)) (changeWhere p c f k t)
+
 -- slot k is marked and live
 abbrev pub marked : List ℕ → List ℕ → ℕ → Bool
 marked marks t k = eqb (getD marks k 0) 1 && live (slot k t)
 
 -- the table with each of its first k slots that is marked and live changed
 unfoldable pub changeMarked : List ℕ → Change → List ℕ → ℕ → List ℕ → List ℕ
-changeMarked p c marks zero t = t
-changeMarked p c marks (suc k) t = cond (marked marks t k) (changeAt p c k (changeMarked p c marks k t)) (changeMarked p c marks k t)
+changeMarked p c marks k t = changeWhere p c (marked marks t) k t
 
 -- how many of them there are
 unfoldable pub countMarked : List ℕ → ℕ → List ℕ → ℕ

@@ -3,7 +3,7 @@
 use mathlib.Core.Path.{_≡_, refl, _∙_}
 use mathlib.Core.Bool.{Bool, true, false, cond}
 use mathlib.Core.List.{List}
-use Prim.Native.Nat.{ℕ, zero, suc, _+_, _<_}
+use Prim.Native.Nat.{ℕ, zero, suc, _+_}
 use native.Mathlib.Omega.{arith}
 use Rattle.octets.proofs.Equality.{and-both}
 use Rattle.attributes.specs.Attributes.{attributes, found}
@@ -14,31 +14,20 @@ use Rattle.slots.specs.Slot.{slotCount, slot, live}
 use Rattle.criteria.specs.Matching.{matchesAt}
 use Rattle.criteria.specs.Marks.{marksAfter, countTo}
 use Rattle.changes.specs.declared.Change.{Change}
-use Rattle.changes.specs.Change.{changeAt, marked, changeMarked, countMarked}
-use Rattle.changes.proofs.Changed.{named, named-counted}
+use Rattle.changes.specs.Change.{changeAt, changeWhere, marked, changeMarked, countMarked}
+use Rattle.changes.proofs.Changed.{named-changed, named-counted}
 use Rattle.effects.specs.Kept.{keptCriteria}
 use Rattle.effects.specs.Matching.{sessionMatches, matchesIn, matchCount}
-use Rattle.effects.specs.Changes.{changeOf, changeWhere, changeMatching}
+use Rattle.effects.specs.Changes.{changeOf, changeMatching}
 use Rattle.effects.proofs.Asked.{kept-marks}
 
 pub matching-live : (area s : List ℕ) → sessionMatches area s ≡ true → live s ≡ true
 unfolding sessionMatches
 matching-live area s h = and-both _ _ h .0
 
--- marks that name the slots that f names change those
-changed-same : (area : List ℕ) (c : Change) (marks : List ℕ) (f : ℕ → Bool) (k : ℕ) (t : List ℕ) → ((i : ℕ) → i < k → marked marks t i ≡ f i)
-    → changeMarked area c marks k t ≡ changeWhere area c f k t
-unfolding changeMarked changeWhere
-changed-same area c marks f zero t h = refl
-changed-same area c marks f (suc k) t h = rw (h k (omega arith), changed-same area c marks f k t (λ i l. h i (omega arith)))
-
 module _ (area t : List ℕ) where
-  -- a slot is marked and live exactly where it matches
-  pub marked-matching : (k : ℕ) → k < slotCount t → marked (marksAfter (matchesIn area t) (slotCount t)) t k ≡ matchesIn area t k
-  marked-matching k h = named (matchesIn area t) t (λ i. matching-live area (slot i t)) k h
-
   pub changed-matching : (c : Change) → changeMarked area c (marksAfter (matchesIn area t) (slotCount t)) (slotCount t) t ≡ changeWhere area c (matchesIn area t) (slotCount t) t
-  changed-matching c = changed-same area c (marksAfter (matchesIn area t) (slotCount t)) (matchesIn area t) (slotCount t) t marked-matching
+  changed-matching c = named-changed (matchesIn area t) t (λ i h. matching-live area (slot i t) h) area c
 
   pub counted-matching : countMarked (marksAfter (matchesIn area t) (slotCount t)) (slotCount t) t ≡ matchCount area t
   unfolding matchCount
@@ -51,7 +40,7 @@ none-by true n u v t e ih = absurd (omega arith)
 none-by false n u v t e ih = ih e
 
 pub none-marked : (area : List ℕ) (c : Change) (marks : List ℕ) (k : ℕ) (t : List ℕ) → countMarked marks k t ≡ 0 → changeMarked area c marks k t ≡ t
-unfolding countMarked countTo changeMarked
+unfolding countMarked countTo changeMarked changeWhere
 none-marked area c marks zero t e = refl
 none-marked area c marks (suc k) t e =
     none-by (marked marks t k) (countTo (marked marks t) k) (changeAt area c k (changeMarked area c marks k t)) (changeMarked area c marks k t) t e (none-marked area c marks k t)

@@ -1,37 +1,34 @@
 -- What a request leaves: each slot is changed by itself, exactly where it matches, so after a Disconnect no matching session is live.
 -- Assumes nothing.
-use mathlib.Core.Path.{_≡_, refl, sym, ap, _∙_}
+use mathlib.Core.Path.{_≡_, refl, ap, _∙_}
 use mathlib.Core.Bool.{Bool, true, false, cond}
 use mathlib.Core.List.{List}
 use Prim.Native.Nat.{ℕ, _<_}
+use native.Mathlib.Omega.{arith}
 use lib.ListN.{length}
 use Rattle.slots.specs.Slot.{slotCount, slot, live}
-use Rattle.criteria.specs.Marks.{marksAfter}
-use Rattle.slots.proofs.Count.{count-same}
+use Rattle.slots.proofs.Count.{counted, count-same}
 use Rattle.criteria.proofs.Marked.{count-none}
-use Rattle.changes.specs.Change.{changed, changeMarked}
-use Rattle.changes.proofs.Slots.{length-changeMarked}
-use Rattle.changes.proofs.Changed.{named-changed}
+use Rattle.changes.specs.Change.{changed}
+use Rattle.changes.proofs.Slots.{length-changeWhere}
+use Rattle.changes.proofs.Changed.{slot-changed}
 use Rattle.changes.proofs.Written.{ended-free}
 use Rattle.effects.specs.Matching.{sessionMatches, matchesIn, matchCount}
 use Rattle.effects.specs.Changes.{changeOf, changeMatching}
-use Rattle.effects.proofs.Marked.{matching-live, changed-matching}
 
 -- ---- of a request of any code
 
 module _ (code : ℕ) (area t : List ℕ) where
-  by-marks : changeMatching code area t ≡ changeMarked area (changeOf code area) (marksAfter (matchesIn area t) (slotCount t)) (slotCount t) t
-  unfolding changeMatching
-  by-marks = sym (changed-matching area t (changeOf code area))
-
   pub length-after : length (changeMatching code area t) ≡ length t
-  length-after = ap length by-marks ∙ length-changeMarked area (changeOf code area) (marksAfter (matchesIn area t) (slotCount t)) (slotCount t) t
+  unfolding changeMatching
+  length-after = length-changeWhere area (changeOf code area) (matchesIn area t) (slotCount t) t
 
   pub count-after : slotCount (changeMatching code area t) ≡ slotCount t
   count-after = count-same (changeMatching code area t) t length-after
 
   pub slot-after : (k : ℕ) → k < slotCount t → slot k (changeMatching code area t) ≡ cond (matchesIn area t k) (changed area (changeOf code area) (slot k t)) (slot k t)
-  slot-after k h = ap (slot k) by-marks ∙ named-changed (matchesIn area t) t (λ i e. matching-live area (slot i t) e) area (changeOf code area) k h
+  unfolding changeMatching
+  slot-after k h = let c = counted t in slot-changed area (changeOf code area) (matchesIn area t) (slotCount t) t k (omega arith) h
 
   pub slot-matching : (k : ℕ) → k < slotCount t → matchesIn area t k ≡ true → slot k (changeMatching code area t) ≡ changed area (changeOf code area) (slot k t)
   slot-matching k h e = slot-after k h ∙ rw e

@@ -1,9 +1,9 @@
 -- What a request does to the sessions it names (document 01: "All matching sessions are changed", "A CoA writes only the fields that it names").
 -- The request is told by its code and the area of its attributes.
 -- Assumes nothing.
-use mathlib.Core.Bool.{Bool, cond}
+use mathlib.Core.Bool.{cond}
 use mathlib.Core.List.{List}
-use Prim.Native.Nat.{ℕ, zero, suc, _+_, _-_}
+use Prim.Native.Nat.{ℕ, _+_, _-_}
 use lib.Dec.{eqb}
 use Rattle.octets.specs.Numbers.{be}
 use Rattle.attributes.specs.declared.Search.{Search}
@@ -17,7 +17,7 @@ use Rattle.changes.specs.declared.Number.{Number}
 use Rattle.changes.specs.declared.Number.the-variants.{Keep, Set}
 use Rattle.changes.specs.declared.Text.{Text}
 use Rattle.changes.specs.declared.Text.the-variants.{Same, Value}
-use Rattle.changes.specs.Change.{changeAt}
+use Rattle.changes.specs.Change.{changeWhere}
 use Rattle.effects.specs.Matching.{matchesIn}
 
 -- the four bytes of a value as a number, and where a value lies; nothing where there is no such attribute
@@ -41,11 +41,6 @@ alterationOf area =
 -- a Disconnect (code 40) ends the sessions, a CoA alters them
 unfoldable pub changeOf : ℕ → List ℕ → Change
 changeOf code area = cond (eqb code 40) End (Alter (alterationOf area))
-
--- the table with each of its first k slots that f names changed
-unfoldable pub changeWhere : List ℕ → Change → (ℕ → Bool) → ℕ → List ℕ → List ℕ
-changeWhere area c f zero t = t
-changeWhere area c f (suc k) t = cond (f k) (changeAt area c k (changeWhere area c f k t)) (changeWhere area c f k t)
 
 -- all matching sessions are changed
 unfoldable pub changeMatching : ℕ → List ℕ → List ℕ → List ℕ
