@@ -7,7 +7,7 @@ use lib.ListN.{length, take, replicate}
 use Rattle.octets.specs.Numbers.{beBytes}
 use Rattle.slots.specs.Slot.{within}
 
--- a text field of 1 + cap bytes: length, value, zeros. Causes 404 and 506 and refusal R8 keep a value to cap bytes; of a longer one the first cap are taken.
+-- a text field of 1 + cap bytes: length, value, zeros. Cause 506 and refusal R8 keep a value to cap bytes; of a longer one the first cap are taken.
 unfoldable pub textField : ℕ → List ℕ → List ℕ
 textField cap v = length (take cap v) ∷ take cap v ++ replicate (cap - length (take cap v)) 0
 
