@@ -1,4 +1,5 @@
 -- The 64 bytes of a message from a place on, with zeros where the message has ended.
+-- For inner contracts and proofs: the blocks are in blockwise/specs/Block.antt.
 -- Assumes nothing.
 use mathlib.Core.List.{List}
 use Prim.Native.Nat.{ℕ}

@@ -1,4 +1,5 @@
 -- The causes behind 404, as one definition, and the tests by which the code finds them from what a pass kept.
+-- For inner contracts and proofs: the causes are in causes/specs/Causes.antt.
 -- Assumes nothing.
 use mathlib.Core.Bool.{Bool, cond, not, _&&_, _||_}
 use mathlib.Core.List.{List}

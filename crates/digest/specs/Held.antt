@@ -1,4 +1,5 @@
 -- What a hash under way holds of the n bytes that it was handed.
+-- For inner contracts and proofs: the digest is in md5/specs/Md5.antt.
 -- Assumes nothing.
 use mathlib.Core.Path.{_≡_}
 use mathlib.Core.List.{List}

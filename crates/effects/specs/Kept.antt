@@ -1,4 +1,5 @@
 -- The criteria and the changes of a request, read off what the pass over its attributes kept of each type.
+-- For inner contracts and proofs: which sessions a request names is said in effects/specs/Matching.antt, what it does to them in effects/specs/Changes.antt.
 -- Assumes nothing.
 use mathlib.Core.Bool.{cond}
 use mathlib.Core.List.{List, [], _∷_, _++_}

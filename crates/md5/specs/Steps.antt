@@ -1,4 +1,5 @@
 -- The operations of MD5 in parts, as the code goes through them.
+-- For inner contracts and proofs: the operations are in md5/specs/Md5.antt.
 -- Assumes nothing.
 use mathlib.Core.Path.{_≡_}
 use mathlib.Core.List.{List}

@@ -1,4 +1,5 @@
 -- Readers over an attribute area: one at the area's start, and one moved to another place.
+-- For inner contracts and proofs: what an area holds is said in attributes/specs/Attributes.antt.
 -- Assumes nothing.
 use mathlib.Core.List.{List}
 use Prim.Native.Nat.{ℕ}

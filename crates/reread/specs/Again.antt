@@ -1,4 +1,5 @@
 -- What Match and Commit count on where the store, read again, still shows the request; v is its stamp.
+-- For inner contracts and proofs: when the store still shows the request is said in reread/specs/Reread.antt.
 -- Assumes nothing.
 use mathlib.Core.Path.{_≡_}
 use mathlib.Core.Bool.{true, false}

@@ -1,4 +1,5 @@
 -- What one pass over the attributes of an area tells: flags for the rules, and for each type how many there are (2 for any more) and where the first one ends.
+-- For inner contracts and proofs: what flags and counts stand for is said in survey/specs/Types.antt and attributes/specs/Attributes.antt.
 -- Assumes nothing.
 use mathlib.Core.Bool.{Bool, not}
 use mathlib.Core.List.{List}

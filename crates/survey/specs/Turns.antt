@@ -1,4 +1,5 @@
 -- What one attribute of a known class adds to a pass: to the flags, and to what is kept of its type.
+-- For inner contracts and proofs: what the flags stand for is said in survey/specs/Types.antt, the classes are in survey/specs/Classes.antt.
 -- Assumes nothing.
 use mathlib.Core.Bool.{Bool, true, false, cond, not, _&&_, _||_}
 use mathlib.Core.List.{List}
