@@ -14,7 +14,7 @@ use Rattle.scheduler.specs.declared.Outcome.the-variants as O
 use Rattle.scheduler.specs.Scheduler.{settingsOf}
 use Rattle.scheduler.specs.Refusals.{stepRefusal}
 use Rattle.scheduler.specs.Runs.{Call, Step, World, Out, call, run}
-use Rattle.serial.specs.Serial.{noted, noteAt, notedAt, Serial, entry, handled, enterStep, enter}
+use Rattle.serial.specs.Serial.{noted, noteAt, notedAt, Serial, serialDid, handled, serialStep, serialCall}
 use Rattle.serial.specs.Demand3.{finished, world, serially, New}
 use Rattle.serial.proofs.Tying.{serialOf}
 use Rattle.serial.proofs.Calling.{call-agrees}
@@ -32,14 +32,14 @@ module _ (b p : List ℕ) (clock : ℕ) where
   Told g t o = WhenDone (Handled g t (o .reply)) (o .outcome)
 
   told : (free done : Bool) (n j : ℕ) (s : Serial)
-      → Told (s .settings) (s .table) (cond free (cond done (handled (noted p clock) j b s) (entry O.Going b s)) (entry (O.Refused n) b s) .out)
+      → Told (s .settings) (s .table) (cond free (cond done (handled (noted p clock) j b s) (serialDid O.Going b s)) (serialDid (O.Refused n) b s) .out)
   told true true n j s = (refl, refl)
   told true false n j s = tt
   told false done n j s = tt
 
-  enter-told : (done : Bool) (size j : ℕ) (s : Serial) → noteAt (s .notes) j ≡ noted p clock → Told (s .settings) (s .table) (enter (Step j b) done size s .out)
-  unfolding enter enterStep
-  enter-told done size j s e = rw e (told (eqb (stepRefusal (notedAt (s .notes)) size j (s .table) b) 0) done (stepRefusal (notedAt (s .notes)) size j (s .table) b) j s)
+  call-told : (done : Bool) (size j : ℕ) (s : Serial) → noteAt (s .notes) j ≡ noted p clock → Told (s .settings) (s .table) (serialCall (Step j b) done size s .out)
+  unfolding serialCall serialStep
+  call-told done size j s e = rw e (told (eqb (stepRefusal (notedAt (s .notes)) size j (s .table) b) 0) done (stepRefusal (notedAt (s .notes)) size j (s .table) b) j s)
 
   module _ (s : D.Scheduler) (new : New s) (cs : List Call) (t store : List ℕ) (j : ℕ) (note : noteAt (serially cs s t store .serial .notes) j ≡ noted p clock) where
     abbrev left : World
@@ -50,7 +50,7 @@ module _ (b p : List ℕ) (clock : ℕ) where
         let r = whole s new cs t store in
         let here : noteAt (r .notes) j ≡ noted p clock = ap (λ (x : Serial). noteAt (x .notes) j) (sym (r .serial-is)) ∙ note in
         subst (Told (settingsOf (left .scheduler)) (left .table)) (sym (call-agrees (Step j b) left (r .notes) (r .tied) .out-is))
-        (enter-told (finished (call (Step j b) left .out)) (length (left .store)) j (serialOf left (r .notes)) here)
+        (call-told (finished (call (Step j b) left .out)) (length (left .store)) j (serialOf left (r .notes)) here)
 
     pub step-handles : (a : Answer) → call (Step j b) left .out .outcome ≡ O.Done a → Handled (settingsOf s) (left .table) (call (Step j b) left .out .reply) a
     step-handles a e =

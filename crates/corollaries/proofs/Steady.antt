@@ -1,4 +1,4 @@
--- A list of calls leaves what the scheduler was made with: no entry of the serial execution changes its settings, and the scheduler's are the same.
+-- A list of calls leaves what the scheduler was made with: no call of the serial execution changes its settings, and the scheduler's are the same.
 -- Assumes nothing.
 use mathlib.Core.Path.{_≡_, refl, sym, ap, _∙_}
 use mathlib.Core.Bool.{Bool, true, false, cond}
@@ -12,42 +12,42 @@ use Rattle.scheduler.specs.declared.Scheduler as D
 use Rattle.scheduler.specs.Scheduler.{settingsOf}
 use Rattle.scheduler.specs.Refusals.{openRefusal, stepRefusal, dropRefusal}
 use Rattle.scheduler.specs.Runs.{Call, Open, Step, Drop, Start, End, run}
-use Rattle.serial.specs.Serial.{Note, none, noted, noteAt, notedAt, Serial, Entry, handled, enterOpen, enterStep, enterDrop, enter, start, keep}
+use Rattle.serial.specs.Serial.{Note, unnoted, noted, noteAt, notedAt, Serial, SerialDid, handled, serialOpen, serialStep, serialDrop, serialCall, atFirst, serialRun}
 use Rattle.serial.specs.Demand3.{finished, world, serially, New}
 use Rattle.serial.proofs.Whole.{whole}
 
--- after the entry e the settings are g
-record Keeps (g : Settings) (e : Entry) : Type 0 where
+-- e left the settings g
+record Keeps (g : Settings) (e : SerialDid) : Type 0 where
   same : e .serial .settings ≡ g
 
-either : (g : Settings) (f : Bool) (x y : Entry) → Keeps g x → Keeps g y → Keeps g (cond f x y)
+either : (g : Settings) (f : Bool) (x y : SerialDid) → Keeps g x → Keeps g y → Keeps g (cond f x y)
 either g true x y h i = h
 either g false x y h i = i
 
 handled-keeps : (n : Note) (j : ℕ) (b : List ℕ) (s : Serial) → Keeps (s .settings) (handled n j b s)
-handled-keeps none j b s = record { same = refl }
+handled-keeps unnoted j b s = record { same = refl }
 handled-keeps (noted p clock) j b s = record { same = refl }
 
-enter-keeps : (c : Call) (f : Bool) (size : ℕ) (s : Serial) → Keeps (s .settings) (enter c f size s)
-unfolding enter enterOpen enterStep enterDrop
-enter-keeps (Open p clock) f size s =
+call-keeps : (c : Call) (f : Bool) (size : ℕ) (s : Serial) → Keeps (s .settings) (serialCall c f size s)
+unfolding serialCall serialOpen serialStep serialDrop
+call-keeps (Open p clock) f size s =
     either _ (eqb (openRefusal (notedAt (s .notes)) size) 0) _ _ (either _ (eqb (formOf p) 0) _ _ (record { same = refl }) (record { same = refl })) (record { same = refl })
-enter-keeps (Step j b) f size s =
+call-keeps (Step j b) f size s =
     either _ (eqb (stepRefusal (notedAt (s .notes)) size j (s .table) b) 0) _ _
     (either _ f _ _ (handled-keeps (noteAt (s .notes) j) j b s) (record { same = refl }))
     (record { same = refl })
-enter-keeps (Drop j) f size s = either _ (eqb (dropRefusal (notedAt (s .notes)) j) 0) _ _ (record { same = refl }) (record { same = refl })
-enter-keeps (Start x) f size s = record { same = refl }
-enter-keeps (End k) f size s = record { same = refl }
+call-keeps (Drop j) f size s = either _ (eqb (dropRefusal (notedAt (s .notes)) j) 0) _ _ (record { same = refl }) (record { same = refl })
+call-keeps (Start x) f size s = record { same = refl }
+call-keeps (End k) f size s = record { same = refl }
 
-keep-keeps : (cs : List Call) (fs : List Bool) (size : ℕ) (s : Serial) → keep cs fs size s .serial .settings ≡ s .settings
-unfolding keep
-keep-keeps [] fs size s = refl
-keep-keeps (c ∷ cs) [] size s = refl
-keep-keeps (c ∷ cs) (f ∷ fs) size s = keep-keeps cs fs size (enter c f size s .serial) ∙ enter-keeps c f size s .same
+run-keeps : (cs : List Call) (fs : List Bool) (size : ℕ) (s : Serial) → serialRun cs fs size s .serial .settings ≡ s .settings
+unfolding serialRun
+run-keeps [] fs size s = refl
+run-keeps (c ∷ cs) [] size s = refl
+run-keeps (c ∷ cs) (f ∷ fs) size s = run-keeps cs fs size (serialCall c f size s .serial) ∙ call-keeps c f size s .same
 
 pub settings-kept : (s : D.Scheduler) → New s → (cs : List Call) (t store : List ℕ) → settingsOf (run cs (world s t store) .world .scheduler) ≡ settingsOf s
 unfolding serially
 settings-kept s new cs t store =
     sym (ap (λ (x : Serial). x .settings) (whole s new cs t store .serial-is))
-    ∙ keep-keeps cs (map finished (run cs (world s t store) .outs)) (length store) (start (settingsOf s) t)
+    ∙ run-keeps cs (map finished (run cs (world s t store) .outs)) (length store) (atFirst (settingsOf s) t)

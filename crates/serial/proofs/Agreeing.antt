@@ -13,11 +13,11 @@ use Rattle.scheduler.specs.declared.Outcome.{Outcome}
 use Rattle.scheduler.specs.Scheduler.{settingsOf, openAt, withJob, restartAll}
 use Rattle.scheduler.specs.Calls.{called}
 use Rattle.scheduler.specs.Runs.{World, Did, did}
-use Rattle.serial.specs.Serial.{Note, none, Entry, entry}
+use Rattle.serial.specs.Serial.{Note, unnoted, SerialDid, serialDid}
 use Rattle.serial.proofs.Tying.{serialOf, Each, all-restarted, stored, Tied, open-below}
 
 -- one answer, the tie again, and the store's length
-pub record Agree (n : ℕ) (d : Did) (e : Entry) : Type 0 where
+pub record Agree (n : ℕ) (d : Did) (e : SerialDid) : Type 0 where
   pub out-is : d .out ≡ e .out
   pub notes : List Note
   pub serial-is : e .serial ≡ serialOf (d .world) notes
@@ -29,24 +29,24 @@ module _ (s : D.Scheduler) (t store : List ℕ) (ns : List Note) (h : Tied (reco
   before = record { scheduler = s; table = t; store = store }
 
   -- a call that changes nothing
-  pub unchanged : (o : Outcome) (b : List ℕ) → Agree (length store) (did (called s o) b t store) (entry o b (serialOf before ns))
+  pub unchanged : (o : Outcome) (b : List ℕ) → Agree (length store) (did (called s o) b t store) (serialDid o b (serialOf before ns))
   unchanged o b = record { out-is = refl; notes = ns; serial-is = refl; tied = h; size = refl }
 
   -- job j freed, its note struck
-  pub struck : (j : ℕ) → openAt (s .jobs) j ≡ true → Each (settingsOf s) (set (s .jobs) j freeJob) (set ns j none) store t
+  pub struck : (j : ℕ) → openAt (s .jobs) j ≡ true → Each (settingsOf s) (set (s .jobs) j freeJob) (set ns j unnoted) store t
   struck j o =
       let l = open-below (s .jobs) j o in
-      stored (settingsOf s) (s .jobs) ns store t j freeJob none l (omega (arith, h .count, h .notes)) refl (λ i ne. h .each i)
+      stored (settingsOf s) (s .jobs) ns store t j freeJob unnoted l (omega (arith, h .count, h .notes)) refl (λ i ne. h .each i)
 
   -- an ACK sends the others back
   pub after-ack : (f : Bool) (j : ℕ) (u : List ℕ) → openAt (s .jobs) j ≡ true → (f ≡ false → u ≡ t)
-      → Tied (record { scheduler = cond f (restartAll (withJob s j freeJob)) (withJob s j freeJob); table = u; store = store }) (set ns j none)
+      → Tied (record { scheduler = cond f (restartAll (withJob s j freeJob)) (withJob s j freeJob); table = u; store = store }) (set ns j unnoted)
   after-ack true j u o e =
       record {
         made = h .made;
         count = simp (length-map, length-set) (h .count);
         notes = simp length-set (h .notes);
-        each = all-restarted (settingsOf s) (set (s .jobs) j freeJob) (set ns j none) store t u (struck j o);
+        each = all-restarted (settingsOf s) (set (s .jobs) j freeJob) (set ns j unnoted) store t u (struck j o);
       }
   after-ack false j u o e =
       rw (e refl) record { made = h .made; count = simp length-set (h .count); notes = simp length-set (h .notes); each = struck j o }

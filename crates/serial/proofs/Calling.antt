@@ -21,7 +21,7 @@ use Rattle.scheduler.specs.Scheduler.{settingsOf, openAt, withJob}
 use Rattle.scheduler.specs.Refusals.{dropRefusal}
 use Rattle.scheduler.specs.Calls.{called, dropCalled, startedAs, startCalled, endedAs, endCalled}
 use Rattle.scheduler.specs.Runs.{Call, Open, Step, Drop, Start, End, World, did, call}
-use Rattle.serial.specs.Serial.{Note, none, entry, withNote, withTable, enterDrop, startOutcome, endOutcome, enter}
+use Rattle.serial.specs.Serial.{Note, unnoted, serialDid, withNote, withTable, serialDrop, startOutcome, endOutcome, serialCall}
 use Rattle.serial.specs.Demand3.{finished}
 use Rattle.serial.proofs.Tying.{serialOf, flags, Tied}
 use Rattle.serial.proofs.Admitting.{drop-admitted}
@@ -37,44 +37,44 @@ module _ (s : D.Scheduler) (t store : List ℕ) (ns : List Note) (h : Tied (reco
 
   by-drop : (f : Bool) (j : ℕ) → eqb (dropRefusal (openAt (s .jobs)) j) 0 ≡ f
       → Agree (length store) (did (cond f (called (withJob s j freeJob) O.Dropped) (called s (O.Refused (dropRefusal (openAt (s .jobs)) j)))) [] t store)
-      (cond f (entry O.Dropped [] (withNote (serialOf before ns) j none)) (entry (O.Refused (dropRefusal (openAt (s .jobs)) j)) [] (serialOf before ns)))
+      (cond f (serialDid O.Dropped [] (withNote (serialOf before ns) j unnoted)) (serialDid (O.Refused (dropRefusal (openAt (s .jobs)) j)) [] (serialOf before ns)))
   by-drop true j e =
       let o = drop-admitted (openAt (s .jobs)) (length store) j (eqb-true _ 0 e) in
       record {
         out-is = refl;
-        notes = set ns j none;
+        notes = set ns j unnoted;
         serial-is = refl;
         tied = record { made = h .made; count = simp length-set (h .count); notes = simp length-set (h .notes); each = struck s t store ns h j o };
         size = refl;
       }
   by-drop false j e = unchanged s t store ns h (O.Refused (dropRefusal (openAt (s .jobs)) j)) []
 
-  drop-agrees : (j : ℕ) (f : Bool) → Agree (length store) (call (Drop j) before) (enter (Drop j) f (length store) (serialOf before ns))
-  unfolding call enter dropCalled enterDrop
+  drop-agrees : (j : ℕ) (f : Bool) → Agree (length store) (call (Drop j) before) (serialCall (Drop j) f (length store) (serialOf before ns))
+  unfolding call serialCall dropCalled serialDrop
   drop-agrees j f = rw (← (flags (settingsOf s) (s .jobs) ns store t (h .each))) (by-drop (eqb (dropRefusal (openAt (s .jobs)) j) 0) j refl)
 
   -- ---- Start and End
 
   by-start : (x : Session) (v : I.Inserted)
-      → Agree (length store) (did (startedAs s v) [] (insertedAs x t v) store) (entry (startOutcome v) [] (withTable (serialOf before ns) (insertedAs x t v)))
+      → Agree (length store) (did (startedAs s v) [] (insertedAs x t v) store) (serialDid (startOutcome v) [] (withTable (serialOf before ns) (insertedAs x t v)))
   by-start x (Slot k) = record { out-is = refl; notes = ns; serial-is = refl; tied = restart-tied s t store ns h (insertedAs x t (Slot k)); size = refl }
   by-start x (NotInserted n) = unchanged s t store ns h (O.Refused n) []
 
-  start-agrees : (x : Session) (f : Bool) → Agree (length store) (call (Start x) before) (enter (Start x) f (length store) (serialOf before ns))
-  unfolding call enter startCalled insertTable
+  start-agrees : (x : Session) (f : Bool) → Agree (length store) (call (Start x) before) (serialCall (Start x) f (length store) (serialOf before ns))
+  unfolding call serialCall startCalled insertTable
   start-agrees x f = by-start x (insertAnswer x t)
 
   by-end : (k : ℕ) (v : X.Removed)
-      → Agree (length store) (did (endedAs s v) [] (removedAs k t v) store) (entry (endOutcome v) [] (withTable (serialOf before ns) (removedAs k t v)))
+      → Agree (length store) (did (endedAs s v) [] (removedAs k t v) store) (serialDid (endOutcome v) [] (withTable (serialOf before ns) (removedAs k t v)))
   by-end k Gone = record { out-is = refl; notes = ns; serial-is = refl; tied = restart-tied s t store ns h (removedAs k t Gone); size = refl }
   by-end k (NotRemoved n) = unchanged s t store ns h (O.Refused n) []
 
-  end-agrees : (k : ℕ) (f : Bool) → Agree (length store) (call (End k) before) (enter (End k) f (length store) (serialOf before ns))
-  unfolding call enter endCalled removeTable
+  end-agrees : (k : ℕ) (f : Bool) → Agree (length store) (call (End k) before) (serialCall (End k) f (length store) (serialOf before ns))
+  unfolding call serialCall endCalled removeTable
   end-agrees k f = by-end k (removeAnswer k t)
 
 -- any call
-pub call-agrees : (c : Call) (w : World) (ns : List Note) → Tied w ns → Agree (length (w .store)) (call c w) (enter c (finished (call c w .out)) (length (w .store)) (serialOf w ns))
+pub call-agrees : (c : Call) (w : World) (ns : List Note) → Tied w ns → Agree (length (w .store)) (call c w) (serialCall c (finished (call c w .out)) (length (w .store)) (serialOf w ns))
 call-agrees (Open p clock) w ns h = open-agrees (w .scheduler) (w .table) (w .store) ns h p clock _
 call-agrees (Step j b) w ns h = step-agrees (w .scheduler) (w .table) (w .store) ns h j b
 call-agrees (Drop j) w ns h = drop-agrees (w .scheduler) (w .table) (w .store) ns h j _

@@ -13,7 +13,7 @@ use Rattle.jobs.specs.Job.{isOpen}
 use Rattle.scheduler.specs.declared.Scheduler as D
 use Rattle.scheduler.specs.Scheduler.{openAt}
 use Rattle.scheduler.specs.Runs.{Call, run}
-use Rattle.serial.specs.Demand3.{quiet, steps, world, New}
+use Rattle.serial.specs.Demand3.{quiet, stepsTaken, world, later, New}
 use Rattle.serial.proofs.Potential.{left, opens, total, pairs, potential, left-most, opens-most, all-finished}
 use Rattle.serial.proofs.Whole.{whole}
 use Rattle.serial.proofs.Spending.{run-spent}
@@ -55,8 +55,8 @@ lone-most js j h =
 -- after a list of calls that leaves no job open but j
 pub lone : (s : D.Scheduler) → New s → (cs ds : List Call) (t store : List ℕ) (j : ℕ)
     → ((i : ℕ) → i ≢ j → openAt (run cs (world s t store) .world .scheduler .jobs) i ≡ false)
-    → quiet (run ds (run cs (world s t store) .world) .outs) ≡ true → 132 ≤ steps (run ds (run cs (world s t store) .world) .outs)
-    → openAt (run ds (run cs (world s t store) .world) .world .scheduler .jobs) j ≡ false
+    → quiet (later s cs ds t store .outs) ≡ true → 132 ≤ stepsTaken (later s cs ds t store .outs)
+    → openAt (later s cs ds t store .world .scheduler .jobs) j ≡ false
 lone s new cs ds t store j h q k =
     let r = whole s new cs t store in
     let after = run cs (world s t store) .world in

@@ -22,7 +22,7 @@ use Rattle.scheduler.specs.Scheduler.{settingsOf, openAt, lowestFree, withJob, 
 use Rattle.scheduler.specs.Refusals.{openRefusal}
 use Rattle.scheduler.specs.Calls.{called, openCalled, openStore}
 use Rattle.scheduler.specs.Runs.{Open, World, did, call}
-use Rattle.serial.specs.Serial.{Note, noted, entry, withNote, enterOpen, enter}
+use Rattle.serial.specs.Serial.{Note, noted, serialDid, withNote, serialOpen, serialCall}
 use Rattle.serial.proofs.Holding.{Holding}
 use Rattle.serial.proofs.Parts.{opened-same, opened-other}
 use Rattle.serial.proofs.Tying.{serialOf, flags, stored, Tied}
@@ -53,7 +53,7 @@ module _ (s : D.Scheduler) (t store : List ℕ) (ns : List Note) (h : Tied (reco
 
   opened : (j : ℕ) → formOf p ≡ 0 → j < 4 → length store ≡ 16384
       → Agree (length store) (did (called (withJob s j (firstJob (lengthOf p) clock)) (O.Opened j)) [] t (room store j))
-      (entry (O.Opened j) [] (withNote (serialOf before ns) j (noted p clock)))
+      (serialDid (O.Opened j) [] (withNote (serialOf before ns) j (noted p clock)))
   opened j e l z =
       record {
         out-is = refl;
@@ -80,14 +80,14 @@ module _ (s : D.Scheduler) (t store : List ℕ) (ns : List Note) (h : Tied (reco
       → Agree (length store)
       (did (cond f (cond d (called (withJob s free (firstJob (lengthOf p) clock)) (O.Opened free)) (called s (O.Discarded (formOf p)))) (called s (O.Refused refusal))) [] t
       (cond f (cond d (room store free) store) store))
-      (cond f (cond d (entry (O.Opened free) [] (withNote (serialOf before ns) free (noted p clock))) (entry (O.Discarded (formOf p)) [] (serialOf before ns)))
-      (entry (O.Refused refusal) [] (serialOf before ns)))
+      (cond f (cond d (serialDid (O.Opened free) [] (withNote (serialOf before ns) free (noted p clock))) (serialDid (O.Discarded (formOf p)) [] (serialOf before ns)))
+      (serialDid (O.Refused refusal) [] (serialOf before ns)))
   by-open true true e i =
       let a = open-admitted (openAt (s .jobs)) (length store) (eqb-true refusal 0 e) in
       opened free (eqb-true (formOf p) 0 i) (a .1) (a .0)
   by-open true false e i = unchanged s t store ns h (O.Discarded (formOf p)) []
   by-open false d e i = unchanged s t store ns h (O.Refused refusal) []
 
-  pub open-agrees : (f : Bool) → Agree (length store) (call (Open p clock) before) (enter (Open p clock) f (length store) (serialOf before ns))
-  unfolding call enter openCalled openStore enterOpen
+  pub open-agrees : (f : Bool) → Agree (length store) (call (Open p clock) before) (serialCall (Open p clock) f (length store) (serialOf before ns))
+  unfolding call serialCall openCalled openStore serialOpen
   open-agrees f = rw (← (flags (settingsOf s) (s .jobs) ns store t (h .each))) (by-open (eqb refusal 0) (eqb (formOf p) 0) refl refl)

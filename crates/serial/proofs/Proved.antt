@@ -13,7 +13,7 @@ use Rattle.scheduler.specs.Making.{makeAnswer}
 use Rattle.scheduler.specs.Runs.{Call, World, run}
 use Rattle.scheduler.proofs.New.{made-new, made-jobs, made-settings, made-ours}
 use Rattle.serial.specs.Serial.{Serial, notedAt}
-use Rattle.serial.specs.Demand3.{quiet, steps, world, serially, New, Demand3}
+use Rattle.serial.specs.Demand3.{quiet, stepsTaken, world, serially, New, Demand3}
 use Rattle.serial.proofs.Potential.{potential-most, all-finished}
 use Rattle.serial.proofs.Whole.{whole, run-behind, notes-open}
 use Rattle.serial.proofs.Spending.{run-spent}
@@ -22,14 +22,14 @@ module _ (s : D.Scheduler) (new : New s) (cs ds : List Call) (t store : List ℕ
   abbrev between : World
   between = run cs (world s t store) .world
 
-  finishes : quiet (run ds between .outs) ≡ true → 912 ≤ steps (run ds between .outs) → (j : ℕ) → openAt (run ds between .world .scheduler .jobs) j ≡ false
+  finishes : quiet (run ds between .outs) ≡ true → 912 ≤ stepsTaken (run ds between .outs) → (j : ℕ) → openAt (run ds between .world .scheduler .jobs) j ≡ false
   finishes q h =
       let r = whole s new cs t store in
       all-finished (run ds between .world .scheduler .jobs)
       (omega (arith, run-spent ds between (r .notes) (r .tied) q, potential-most (between .scheduler .jobs) (r .tied .count)))
 
-  strikes : quiet (run ds between .outs) ≡ true → 912 ≤ steps (run ds between .outs) → (j : ℕ) → notedAt (serially (cs ++ ds) s t store .serial .notes) j ≡ false
-  strikes q h j =
+  none-noted : quiet (run ds between .outs) ≡ true → 912 ≤ stepsTaken (run ds between .outs) → (j : ℕ) → notedAt (serially (cs ++ ds) s t store .serial .notes) j ≡ false
+  none-noted q h j =
       let o = notes-open (run (cs ++ ds) (world s t store)) (serially (cs ++ ds) s t store) (whole s new (cs ++ ds) t store) in
       ap (λ (f : ℕ → Bool). f j) (sym o) ∙ rw (run-behind cs ds (world s t store)) (finishes q h j)
 
@@ -43,5 +43,5 @@ demand3 =
       answers = λ s new cs t store. whole s new cs t store .outs-are;
       table = λ s new cs t store. ap (λ (x : Serial). x .table) (sym (whole s new cs t store .serial-is));
       ends = finishes;
-      struck = strikes;
+      no-notes = none-noted;
     }

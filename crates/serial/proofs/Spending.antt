@@ -31,8 +31,8 @@ use Rattle.scheduler.specs.Refusals.{openRefusal, stepRefusal, dropRefusal}
 use Rattle.scheduler.specs.Calls.{called, steppedAs, movedOf, openCalled, stepCalled, dropCalled, startedAs, startCalled, endedAs, endCalled}
 use Rattle.scheduler.specs.declared.Called as C
 use Rattle.scheduler.specs.Runs.{Call, Open, Step, Drop, Start, End, World, call, run}
-use Rattle.serial.specs.Serial.{Note, none, noted}
-use Rattle.serial.specs.Demand3.{quietBy, quiet, countsBy, steps}
+use Rattle.serial.specs.Serial.{Note, unnoted, noted}
+use Rattle.serial.specs.Demand3.{quietBy, quiet, countsBy, stepsTaken}
 use Rattle.serial.proofs.Same.{form-sized}
 use Rattle.serial.proofs.Holding.{Holding}
 use Rattle.serial.proofs.Moving.{move-right}
@@ -57,7 +57,7 @@ module _ (s : D.Scheduler) (t store : List ℕ) (ns : List Note) (h : Tied (reco
   by-note : (n : Note) (j : ℕ) (b : List ℕ) → JobTied (settingsOf s) (jobAt (s .jobs) j) n (partOf j store) t → stepRefusal (openAt (s .jobs)) (length store) j t b ≡ 0
       → potential (steppedAs s j (movedOf s j t store) (movedOf s j t store .ending) .scheduler .jobs) < potential (s .jobs)
   unfolding openAt moved
-  by-note none j b k r = let a = step-admitted (openAt (s .jobs)) (length store) j t b r in absurd (false≢true (sym k ∙ a .open-is))
+  by-note unnoted j b k r = let a = step-admitted (openAt (s .jobs)) (length store) j t b r in absurd (false≢true (sym k ∙ a .open-is))
   by-note (noted p clock) j b k r =
       let a = step-admitted (openAt (s .jobs)) (length store) j t b r in
       put-less s j (a .open-is) (settingsOf s) p clock (partOf j store) t b (movedTable (settingsOf s) (jobAt (s .jobs) j) (partOf j store) t)
@@ -72,7 +72,7 @@ module _ (s : D.Scheduler) (t store : List ℕ) (ns : List Note) (h : Tied (reco
   by-refusal : (f : Bool) (j : ℕ) (b : List ℕ) → eqb (stepRefusal (openAt (s .jobs)) (length store) j t b) 0 ≡ f
       → Spent (s .jobs) (cond f (steppedAs s j (movedOf s j t store) (movedOf s j t store .ending)) (called s (O.Refused (stepRefusal (openAt (s .jobs)) (length store) j t b))))
   by-refusal true j b e q =
-      omega (arith, by-note (getD ns j none) j b (h .each j) (eqb-true _ 0 e), one-step j (movedOf s j t store) (movedOf s j t store .ending))
+      omega (arith, by-note (getD ns j unnoted) j b (h .each j) (eqb-true _ 0 e), one-step j (movedOf s j t store) (movedOf s j t store .ending))
   by-refusal false j b e q = omega arith
 
   step-spent : (j : ℕ) (b : List ℕ) → Spent (s .jobs) (stepCalled s j t b store)
@@ -111,8 +111,8 @@ call-spent (Start x) w ns h = by-start (w .scheduler) (insertAnswer x (w .table)
 call-spent (End k) w ns h = by-end (w .scheduler) (removeAnswer k (w .table))
 
 pub run-spent : (cs : List Call) (w : World) (ns : List Note) → Tied w ns → quiet (run cs w .outs) ≡ true
-    → potential (run cs w .world .scheduler .jobs) + steps (run cs w .outs) ≤ potential (w .scheduler .jobs)
-unfolding run quiet steps
+    → potential (run cs w .world .scheduler .jobs) + stepsTaken (run cs w .outs) ≤ potential (w .scheduler .jobs)
+unfolding run quiet stepsTaken
 run-spent [] w ns h q = omega arith
 run-spent (c ∷ cs) w ns h q =
     let a = call-agrees c w ns h in

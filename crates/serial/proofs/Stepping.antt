@@ -23,7 +23,7 @@ use Rattle.scheduler.specs.Scheduler.{settingsOf, jobAt, openAt, withJob, resta
 use Rattle.scheduler.specs.Refusals.{stepRefusal}
 use Rattle.scheduler.specs.Calls.{called, isAck, steppedAs, movedOf, stepCalled, stepTable, stepReply}
 use Rattle.scheduler.specs.Runs.{Step, World, Did, did, call}
-use Rattle.serial.specs.Serial.{Note, none, noted, noteAt, Entry, entry, handled, enterStep, enter}
+use Rattle.serial.specs.Serial.{Note, unnoted, noted, noteAt, SerialDid, serialDid, handled, serialStep, serialCall}
 use Rattle.serial.specs.Demand3.{finished}
 use Rattle.serial.proofs.Holding.{Ended, Finished}
 use Rattle.serial.proofs.Moving.{move-right}
@@ -39,8 +39,8 @@ module _ (s : D.Scheduler) (t store : List ℕ) (ns : List Note) (h : Tied (reco
   abbrev done-of : ℕ → List ℕ → List ℕ → B.Job → E.Ending → Did
   done-of j b u x e = did (steppedAs s j (record { job = x; ending = e }) e) (replyAfter (settingsOf s .secret) (partOf j store) b e) u store
 
-  abbrev told-of : Note → ℕ → List ℕ → Bool → Entry
-  told-of n j b f = cond f (handled n j b (serialOf before ns)) (entry O.Going b (serialOf before ns))
+  abbrev told-of : Note → ℕ → List ℕ → Bool → SerialDid
+  told-of n j b f = cond f (handled n j b (serialOf before ns)) (serialDid O.Going b (serialOf before ns))
 
   finish-agrees : (f : Bool) (p : List ℕ) (clock j : ℕ) (b u : List ℕ) (x : B.Job) (a : A.Answer) → isAck a ≡ f → openAt (s .jobs) j ≡ true
       → Finished (settingsOf s) p clock (partOf j store) t b x u a
@@ -49,7 +49,7 @@ module _ (s : D.Scheduler) (t store : List ℕ) (ns : List Note) (h : Tied (reco
   finish-agrees true p clock j b u x a e o k =
       record {
         out-is = rw (k .answer, k .reply);
-        notes = set ns j none;
+        notes = set ns j unnoted;
         serial-is = rw (k .table);
         tied = rw (k .freed) (after-ack s t store ns h true j u o (λ z. k .kept (e ∙ z)));
         size = refl;
@@ -57,17 +57,17 @@ module _ (s : D.Scheduler) (t store : List ℕ) (ns : List Note) (h : Tied (reco
   finish-agrees false p clock j b u x a e o k =
       record {
         out-is = rw (k .answer, k .reply);
-        notes = set ns j none;
+        notes = set ns j unnoted;
         serial-is = rw (k .table);
         tied = rw (k .freed) (after-ack s t store ns h false j u o (λ z. k .kept (e ∙ z)));
         size = refl;
       }
 
-  put-agrees : (p : List ℕ) (clock j : ℕ) (b u : List ℕ) (x : B.Job) (e : E.Ending) → getD ns j none ≡ noted p clock → openAt (s .jobs) j ≡ true
+  put-agrees : (p : List ℕ) (clock j : ℕ) (b u : List ℕ) (x : B.Job) (e : E.Ending) → getD ns j unnoted ≡ noted p clock → openAt (s .jobs) j ≡ true
       → Ended (settingsOf s) p clock (partOf j store) t b x u e → Agree (length store) (done-of j b u x e) (told-of (noted p clock) j b (finished (done-of j b u x e .out)))
   put-agrees p clock j b u x K.Going i o k =
       let l = open-below (s .jobs) j o in
-      let same : set ns j (noted p clock) ≡ ns = ap (set ns j) (sym i) ∙ set-getD ns j none in
+      let same : set ns j (noted p clock) ≡ ns = ap (set ns j) (sym i) ∙ set-getD ns j unnoted in
       record {
         out-is = refl;
         notes = ns;
@@ -90,11 +90,11 @@ module _ (s : D.Scheduler) (t store : List ℕ) (ns : List Note) (h : Tied (reco
   abbrev table-of : ℕ → List ℕ
   table-of j = movedTable (settingsOf s) (jobAt (s .jobs) j) (partOf j store) t
 
-  by-note : (n : Note) (j : ℕ) (b : List ℕ) → getD ns j none ≡ n → JobTied (settingsOf s) (jobAt (s .jobs) j) n (partOf j store) t
+  by-note : (n : Note) (j : ℕ) (b : List ℕ) → getD ns j unnoted ≡ n → JobTied (settingsOf s) (jobAt (s .jobs) j) n (partOf j store) t
       → stepRefusal (openAt (s .jobs)) (length store) j t b ≡ 0
       → Agree (length store) (done-of j b (table-of j) (moving j .job) (moving j .ending)) (told-of n j b (finished (done-of j b (table-of j) (moving j .job) (moving j .ending) .out)))
   unfolding openAt
-  by-note none j b i k r = let a = step-admitted (openAt (s .jobs)) (length store) j t b r in absurd (false≢true (sym k ∙ a .open-is))
+  by-note unnoted j b i k r = let a = step-admitted (openAt (s .jobs)) (length store) j t b r in absurd (false≢true (sym k ∙ a .open-is))
   by-note (noted p clock) j b i k r =
       let a = step-admitted (openAt (s .jobs)) (length store) j t b r in
       put-agrees p clock j b (table-of j) (moving j .job) (moving j .ending) i (a .open-is)
@@ -110,10 +110,10 @@ module _ (s : D.Scheduler) (t store : List ℕ) (ns : List Note) (h : Tied (reco
         (cond f (table-of j) t) store
 
     by-refusal : (f : Bool) → eqb refusal 0 ≡ f
-        → Agree (length store) (did-of f) (cond f (told-of (getD ns j none) j b (finished (did-of f .out))) (entry (O.Refused refusal) b (serialOf before ns)))
-    by-refusal true e = by-note (getD ns j none) j b refl (h .each j) (eqb-true refusal 0 e)
+        → Agree (length store) (did-of f) (cond f (told-of (getD ns j unnoted) j b (finished (did-of f .out))) (serialDid (O.Refused refusal) b (serialOf before ns)))
+    by-refusal true e = by-note (getD ns j unnoted) j b refl (h .each j) (eqb-true refusal 0 e)
     by-refusal false e = unchanged s t store ns h (O.Refused refusal) b
 
-    pub step-agrees : Agree (length store) (call (Step j b) before) (enter (Step j b) (finished (call (Step j b) before .out)) (length store) (serialOf before ns))
-    unfolding call enter stepCalled stepTable stepReply enterStep noteAt
+    pub step-agrees : Agree (length store) (call (Step j b) before) (serialCall (Step j b) (finished (call (Step j b) before .out)) (length store) (serialOf before ns))
+    unfolding call serialCall stepCalled stepTable stepReply serialStep noteAt
     step-agrees = rw (← (flags (settingsOf s) (s .jobs) ns store t (h .each))) (by-refusal (eqb refusal 0) refl)

@@ -18,7 +18,7 @@ use Rattle.jobs.specs.declared.Stage.the-variants.{Free, Hash, Check, Match}
 use Rattle.jobs.specs.Job.{freeJob, isOpen, restartedAt, restarted}
 use Rattle.scheduler.specs.Scheduler.{settingsOf, jobAt, openAt, partOf}
 use Rattle.scheduler.specs.Runs.{World}
-use Rattle.serial.specs.Serial.{Note, none, noted, isNoted, noteAt, notedAt, Serial}
+use Rattle.serial.specs.Serial.{Note, unnoted, noted, isNoted, noteAt, notedAt, Serial}
 use Rattle.serial.proofs.Holding.{Place, Holding}
 
 -- a secret and an identity that making does not refuse
@@ -44,11 +44,11 @@ restarted-open j = back-open (j .stage) j refl
 
 module _ (g : Settings) where
   abbrev pub JobTied : B.Job → Note → List ℕ → List ℕ → Type 0
-  JobTied j none q t = isOpen (j .stage) ≡ false
+  JobTied j unnoted q t = isOpen (j .stage) ≡ false
   JobTied j (noted p clock) q t = Holding g j p clock q t
 
   abbrev pub Each : List B.Job → List Note → List ℕ → List ℕ → Type 0
-  Each js ns store t = (i : ℕ) → JobTied (jobAt js i) (getD ns i none) (partOf i store) t
+  Each js ns store t = (i : ℕ) → JobTied (jobAt js i) (getD ns i unnoted) (partOf i store) t
 
   -- ---- a job is open exactly if it is noted
 
@@ -59,12 +59,12 @@ module _ (g : Settings) where
   place-open (Match k) w m p clock t h = refl
 
   pub job-flag : (j : B.Job) (n : Note) (q t : List ℕ) → JobTied j n q t → isOpen (j .stage) ≡ isNoted n
-  job-flag j none q t h = h
+  job-flag j unnoted q t h = h
   job-flag j (noted p clock) q t h = place-open (j .stage) (j .words) (j .marks) p clock t (h .place)
 
   pub flags : (js : List B.Job) (ns : List Note) (store t : List ℕ) → Each js ns store t → openAt js ≡ notedAt ns
   unfolding openAt notedAt noteAt
-  flags js ns store t h = fun-ext (λ i. job-flag (jobAt js i) (getD ns i none) (partOf i store) t (h i))
+  flags js ns store t h = fun-ext (λ i. job-flag (jobAt js i) (getD ns i unnoted) (partOf i store) t (h i))
 
   -- ---- sent back to slot 0
 
@@ -81,22 +81,22 @@ module _ (g : Settings) where
 
   restarted-tied : (j : B.Job) (n : Note) (q t u : List ℕ) → JobTied j n q t → JobTied (restarted j) n q u
   unfolding restarted
-  restarted-tied j none q t u h = back-open (j .stage) j refl ∙ h
+  restarted-tied j unnoted q t u h = back-open (j .stage) j refl ∙ h
   restarted-tied j (noted p clock) q t u h = back-holds (j .stage) j p clock q t u refl h (h .place)
 
   pub all-restarted : (js : List B.Job) (ns : List Note) (store t u : List ℕ) → Each js ns store t → Each (map restarted js) ns store u
   unfolding restarted
-  all-restarted js ns store t u h i = rw (List·getD-map restarted js i freeJob) (restarted-tied (jobAt js i) (getD ns i none) (partOf i store) t u (h i))
+  all-restarted js ns store t u h i = rw (List·getD-map restarted js i freeJob) (restarted-tied (jobAt js i) (getD ns i unnoted) (partOf i store) t u (h i))
 
   -- ---- a job and its note stored together
 
   pub stored : (js : List B.Job) (ns : List Note) (store t : List ℕ) (j : ℕ) (x : B.Job) (n : Note) → j < length js → j < length ns → JobTied x n (partOf j store) t
-      → ((i : ℕ) → i ≢ j → JobTied (jobAt js i) (getD ns i none) (partOf i store) t) → Each (set js j x) (set ns j n) store t
+      → ((i : ℕ) → i ≢ j → JobTied (jobAt js i) (getD ns i unnoted) (partOf i store) t) → Each (set js j x) (set ns j n) store t
   stored js ns store t j x n lj ln here rest i = go (ℕ-discrete i j)
     where
-      go : Dec (i ≡ j) → JobTied (jobAt (set js j x) i) (getD (set ns j n) i none) (partOf i store) t
-      go (yes e) = rw (e, getD-set-same js j x freeJob lj, getD-set-same ns j n none ln) here
-      go (no ne) = rw (getD-set-other js j i x freeJob ne, getD-set-other ns j i n none ne) (rest i ne)
+      go : Dec (i ≡ j) → JobTied (jobAt (set js j x) i) (getD (set ns j n) i unnoted) (partOf i store) t
+      go (yes e) = rw (e, getD-set-same js j x freeJob lj, getD-set-same ns j n unnoted ln) here
+      go (no ne) = rw (getD-set-other js j i x freeJob ne, getD-set-other ns j i n unnoted ne) (rest i ne)
 
 pub record Tied (w : World) (ns : List Note) : Type 0 where
   pub made : Made (settingsOf (w .scheduler))

@@ -13,23 +13,23 @@ use Rattle.jobs.specs.Job.{freeJob, isOpen}
 use Rattle.scheduler.specs.declared.Scheduler as D
 use Rattle.scheduler.specs.Scheduler.{settingsOf, jobAt, openAt, Ours}
 use Rattle.scheduler.specs.Runs.{Call, World, Ran, call, run}
-use Rattle.serial.specs.Serial.{Note, none, Serial, Kept, notedAt, enter, keep}
+use Rattle.serial.specs.Serial.{Note, unnoted, Serial, SerialRan, notedAt, serialCall, serialRun}
 use Rattle.serial.specs.Demand3.{finished, world, serially, New}
 use Rattle.serial.proofs.Tying.{Made, serialOf, flags, Tied}
 use Rattle.serial.proofs.Agreeing.{Agree}
 use Rattle.serial.proofs.Calling.{call-agrees}
 
-pub record Same (d : Ran) (k : Kept) : Type 0 where
+pub record Same (d : Ran) (k : SerialRan) : Type 0 where
   pub outs-are : d .outs ≡ k .outs
   pub notes : List Note
   pub serial-is : k .serial ≡ serialOf (d .world) notes
   pub tied : Tied (d .world) notes
 
-pub runs : (cs : List Call) (n : ℕ) (w : World) (ns : List Note) → length (w .store) ≡ n → Tied w ns → Same (run cs w) (keep cs (map finished (run cs w .outs)) n (serialOf w ns))
-unfolding run keep
+pub runs : (cs : List Call) (n : ℕ) (w : World) (ns : List Note) → length (w .store) ≡ n → Tied w ns → Same (run cs w) (serialRun cs (map finished (run cs w .outs)) n (serialOf w ns))
+unfolding run serialRun
 runs [] n w ns z h = record { outs-are = refl; notes = ns; serial-is = refl; tied = h }
 runs (c ∷ cs) n w ns z h =
-    let a : Agree n (call c w) (enter c (finished (call c w .out)) n (serialOf w ns)) = rw z at (call-agrees c w ns h) in
+    let a : Agree n (call c w) (serialCall c (finished (call c w .out)) n (serialOf w ns)) = rw z at (call-agrees c w ns h) in
     let r = runs cs n (call c w .world) (a .notes) (a .size) (a .tied) in
     rw (← (a .out-is), a .serial-is) record { outs-are = ap (_∷_ (call c w .out)) (r .outs-are); notes = r .notes; serial-is = r .serial-is; tied = r .tied }
 
@@ -59,28 +59,28 @@ free-each (suc (suc zero)) = refl
 free-each (suc (suc (suc zero))) = refl
 free-each (suc (suc (suc (suc i)))) = refl
 
-no-notes : (i : ℕ) → getD (replicate 4 none) i none ≡ none
-no-notes zero = refl
-no-notes (suc zero) = refl
-no-notes (suc (suc zero)) = refl
-no-notes (suc (suc (suc zero))) = refl
-no-notes (suc (suc (suc (suc i)))) = refl
+each-unnoted : (i : ℕ) → getD (replicate 4 unnoted) i unnoted ≡ unnoted
+each-unnoted zero = refl
+each-unnoted (suc zero) = refl
+each-unnoted (suc (suc zero)) = refl
+each-unnoted (suc (suc (suc zero))) = refl
+each-unnoted (suc (suc (suc (suc i)))) = refl
 
-new-tied : (s : D.Scheduler) → New s → (t store : List ℕ) → Tied (world s t store) (replicate 4 none)
+new-tied : (s : D.Scheduler) → New s → (t store : List ℕ) → Tied (world s t store) (replicate 4 unnoted)
 new-tied s n t store =
     record {
       made = made s (n .ours);
       count = n .ours .four;
       notes = refl;
-      each = λ i. rw (no-notes i) (rw (n .free) (free-each i));
+      each = λ i. rw (each-unnoted i) (rw (n .free) (free-each i));
     }
 
 pub whole : (s : D.Scheduler) → New s → (cs : List Call) (t store : List ℕ) → Same (run cs (world s t store)) (serially cs s t store)
 unfolding serially
-whole s n cs t store = runs cs (length store) (world s t store) (replicate 4 none) refl (new-tied s n t store)
+whole s n cs t store = runs cs (length store) (world s t store) (replicate 4 unnoted) refl (new-tied s n t store)
 
 -- the notes left are the open jobs
-pub notes-open : (d : Ran) (k : Kept) → Same d k → openAt (d .world .scheduler .jobs) ≡ notedAt (k .serial .notes)
+pub notes-open : (d : Ran) (k : SerialRan) → Same d k → openAt (d .world .scheduler .jobs) ≡ notedAt (k .serial .notes)
 notes-open d k r =
     flags (settingsOf (d .world .scheduler)) (d .world .scheduler .jobs) (r .notes) (d .world .store) (d .world .table) (r .tied .each)
     ∙ ap (λ (x : Serial). notedAt (x .notes)) (sym (r .serial-is))

@@ -14,8 +14,8 @@ use Rattle.scheduler.specs.declared.Outcome.the-variants.{Refused, Discarded, O
 use Rattle.scheduler.specs.Scheduler.{settingsOf, openAt, Ours}
 use Rattle.scheduler.specs.Refusals.{makeRefusal}
 use Rattle.scheduler.specs.Making.{makeAnswer}
-use Rattle.scheduler.specs.Runs.{Call, World, Out, run}
-use Rattle.serial.specs.Serial.{Kept, notedAt, start, keep}
+use Rattle.scheduler.specs.Runs.{Call, World, Out, Ran, run}
+use Rattle.serial.specs.Serial.{SerialRan, notedAt, atFirst, serialRun}
 
 -- of an answer only whether a step finished
 abbrev pub finishedBy : O.Outcome → Bool
@@ -57,21 +57,25 @@ countsBy Dropped = 0
 countsBy (Started k) = 0
 countsBy Ended = 0
 
-unfoldable pub steps : List Out → ℕ
-steps [] = 0
-steps (o ∷ os) = countsBy (o .outcome) + steps os
+unfoldable pub stepsTaken : List Out → ℕ
+stepsTaken [] = 0
+stepsTaken (o ∷ os) = countsBy (o .outcome) + stepsTaken os
 
 -- 4 * 132 + (3 + 2 + 1) * 64: four jobs, and each ACK sends those that are left over the slots once more
 abbrev pub mostSteps : ℕ
 mostSteps = 912
 
--- a newly made scheduler, any table and any store
+-- a scheduler, a table and a store
 abbrev pub world : D.Scheduler → List ℕ → List ℕ → World
 world s t store = record { scheduler = s; table = t; store = store }
 
+-- the run of ds after cs
+abbrev pub later : D.Scheduler → List Call → List Call → List ℕ → List ℕ → Ran
+later s cs ds t store = run ds (run cs (world s t store) .world)
+
 -- the serial execution of the same list
-unfoldable pub serially : List Call → D.Scheduler → List ℕ → List ℕ → Kept
-serially cs s t store = keep cs (map finished (run cs (world s t store) .outs)) (length store) (start (settingsOf s) t)
+unfoldable pub serially : List Call → D.Scheduler → List ℕ → List ℕ → SerialRan
+serially cs s t store = serialRun cs (map finished (run cs (world s t store) .outs)) (length store) (atFirst (settingsOf s) t)
 
 -- s is newly made: ours, and no job is open
 pub record New (s : D.Scheduler) : Type 0 where
@@ -87,9 +91,9 @@ pub record Demand3 : Type 0 where
   pub table : (s : D.Scheduler) → New s → (cs : List Call) (t store : List ℕ) → run cs (world s t store) .world .table ≡ serially cs s t store .serial .table
   -- if nothing is opened, started, ended or dropped after that, all open requests are finished by the 912th further step that is not refused
   pub ends : (s : D.Scheduler) → New s → (cs ds : List Call) (t store : List ℕ)
-      → quiet (run ds (run cs (world s t store) .world) .outs) ≡ true → mostSteps ≤ steps (run ds (run cs (world s t store) .world) .outs)
-      → (j : ℕ) → openAt (run ds (run cs (world s t store) .world) .world .scheduler .jobs) j ≡ false
+      → quiet (later s cs ds t store .outs) ≡ true → mostSteps ≤ stepsTaken (later s cs ds t store .outs)
+      → (j : ℕ) → openAt (later s cs ds t store .world .scheduler .jobs) j ≡ false
   -- and the serial execution has no note left
-  pub struck : (s : D.Scheduler) → New s → (cs ds : List Call) (t store : List ℕ)
-      → quiet (run ds (run cs (world s t store) .world) .outs) ≡ true → mostSteps ≤ steps (run ds (run cs (world s t store) .world) .outs)
+  pub no-notes : (s : D.Scheduler) → New s → (cs ds : List Call) (t store : List ℕ)
+      → quiet (later s cs ds t store .outs) ≡ true → mostSteps ≤ stepsTaken (later s cs ds t store .outs)
       → (j : ℕ) → notedAt (serially (cs ++ ds) s t store .serial .notes) j ≡ false

@@ -23,11 +23,11 @@ use Rattle.scheduler.specs.Runs.{Call, Open, Step, Drop, Start, End, Out}
 
 -- a note or none for each job number: the packet as given, and the clock
 pub data Note : Type 0 where
-  none : Note
+  unnoted : Note
   noted : List ℕ → ℕ → Note
 
 abbrev pub isNoted : Note → Bool
-isNoted none = false
+isNoted unnoted = false
 isNoted (noted p clock) = true
 
 -- what the scheduler was made with, the table, and the notes
@@ -36,19 +36,19 @@ pub record Serial : Type 0 where
   pub table : List ℕ
   pub notes : List Note
 
-pub record Entry : Type 0 where
+pub record SerialDid : Type 0 where
   pub out : Out
   pub serial : Serial
 
 unfoldable pub noteAt : List Note → ℕ → Note
-noteAt ns j = getD ns j none
+noteAt ns j = getD ns j unnoted
 
 -- noted jobs are its open ones
 unfoldable pub notedAt : List Note → ℕ → Bool
 notedAt ns j = isNoted (noteAt ns j)
 
-abbrev pub entry : O.Outcome → List ℕ → Serial → Entry
-entry o b s = record { out = record { outcome = o; reply = b }; serial = s }
+abbrev pub serialDid : O.Outcome → List ℕ → Serial → SerialDid
+serialDid o b s = record { out = record { outcome = o; reply = b }; serial = s }
 
 abbrev pub withTable : Serial → List ℕ → Serial
 withTable s t = record { settings = s .settings; table = t; notes = s .notes }
@@ -57,35 +57,35 @@ abbrev pub withNote : Serial → ℕ → Note → Serial
 withNote s j n = record { settings = s .settings; table = s .table; notes = set (s .notes) j n }
 
 -- opening answers D1 to D3, or notes packet and clock at the lowest free number and answers that number
-unfoldable pub enterOpen : List ℕ → ℕ → ℕ → Serial → Entry
-enterOpen p clock size s =
+unfoldable pub serialOpen : List ℕ → ℕ → ℕ → Serial → SerialDid
+serialOpen p clock size s =
     cond (eqb (openRefusal (notedAt (s .notes)) size) 0)
     (cond (eqb (formOf p) 0)
-    (entry (Opened (lowestFree (notedAt (s .notes)))) [] (withNote s (lowestFree (notedAt (s .notes))) (noted p clock)))
-    (entry (Discarded (formOf p)) [] s))
-    (entry (Refused (openRefusal (notedAt (s .notes)) size)) [] s)
+    (serialDid (Opened (lowestFree (notedAt (s .notes)))) [] (withNote s (lowestFree (notedAt (s .notes))) (noted p clock)))
+    (serialDid (Discarded (formOf p)) [] s))
+    (serialDid (Refused (openRefusal (notedAt (s .notes)) size)) [] s)
 
 -- a step that finished handles the noted packet whole and strikes the note
-abbrev pub handled : Note → ℕ → List ℕ → Serial → Entry
-handled none j b s = entry Going b s  -- does not come: R7
+abbrev pub handled : Note → ℕ → List ℕ → Serial → SerialDid
+handled unnoted j b s = serialDid Going b s  -- does not come: R7
 handled (noted p clock) j b s =
-    entry (Done (handleAnswer (s .settings) (s .table) b p clock))
+    serialDid (Done (handleAnswer (s .settings) (s .table) b p clock))
     (handleReply (s .settings) (s .table) b p clock)
-    (withTable (withNote s j none) (handleTable (s .settings) (s .table) b p clock))
+    (withTable (withNote s j unnoted) (handleTable (s .settings) (s .table) b p clock))
 
 -- a step neither refused nor finished changes nothing and answers only that it did not finish
-unfoldable pub enterStep : ℕ → List ℕ → Bool → ℕ → Serial → Entry
-enterStep j b finished size s =
+unfoldable pub serialStep : ℕ → List ℕ → Bool → ℕ → Serial → SerialDid
+serialStep j b finished size s =
     cond (eqb (stepRefusal (notedAt (s .notes)) size j (s .table) b) 0)
-    (cond finished (handled (noteAt (s .notes) j) j b s) (entry Going b s))
-    (entry (Refused (stepRefusal (notedAt (s .notes)) size j (s .table) b)) b s)
+    (cond finished (handled (noteAt (s .notes) j) j b s) (serialDid Going b s))
+    (serialDid (Refused (stepRefusal (notedAt (s .notes)) size j (s .table) b)) b s)
 
 -- drop strikes the note
-unfoldable pub enterDrop : ℕ → Serial → Entry
-enterDrop j s =
+unfoldable pub serialDrop : ℕ → Serial → SerialDid
+serialDrop j s =
     cond (eqb (dropRefusal (notedAt (s .notes)) j) 0)
-    (entry Dropped [] (withNote s j none))
-    (entry (Refused (dropRefusal (notedAt (s .notes)) j)) [] s)
+    (serialDid Dropped [] (withNote s j unnoted))
+    (serialDid (Refused (dropRefusal (notedAt (s .notes)) j)) [] s)
 
 -- start and end act on its table
 abbrev pub startOutcome : I.Inserted → O.Outcome
@@ -96,25 +96,28 @@ abbrev pub endOutcome : X.Removed → O.Outcome
 endOutcome Gone = Ended
 endOutcome (NotRemoved n) = Refused n
 
-unfoldable pub enter : Call → Bool → ℕ → Serial → Entry
-enter (Open p clock) finished size s = enterOpen p clock size s
-enter (Step j b) finished size s = enterStep j b finished size s
-enter (Drop j) finished size s = enterDrop j s
-enter (Start x) finished size s = entry (startOutcome (insertAnswer x (s .table))) [] (withTable s (insertTable x (s .table)))
-enter (End k) finished size s = entry (endOutcome (removeAnswer k (s .table))) [] (withTable s (removeTable k (s .table)))
+unfoldable pub serialCall : Call → Bool → ℕ → Serial → SerialDid
+serialCall (Open p clock) finished size s = serialOpen p clock size s
+serialCall (Step j b) finished size s = serialStep j b finished size s
+serialCall (Drop j) finished size s = serialDrop j s
+serialCall (Start x) finished size s = serialDid (startOutcome (insertAnswer x (s .table))) [] (withTable s (insertTable x (s .table)))
+serialCall (End k) finished size s = serialDid (endOutcome (removeAnswer k (s .table))) [] (withTable s (removeTable k (s .table)))
 
 -- at first none is noted
-abbrev pub start : Settings → List ℕ → Serial
-start g t = record { settings = g; table = t; notes = replicate 4 none }
+abbrev pub atFirst : Settings → List ℕ → Serial
+atFirst g t = record { settings = g; table = t; notes = replicate 4 unnoted }
 
 -- a list of calls, each with whether it was a step that finished
-pub record Kept : Type 0 where
+pub record SerialRan : Type 0 where
   pub outs : List Out
   pub serial : Serial
 
-unfoldable pub keep : List Call → List Bool → ℕ → Serial → Kept
-keep [] fs size s = record { outs = []; serial = s }
+unfoldable pub serialRun : List Call → List Bool → ℕ → Serial → SerialRan
+serialRun [] fs size s = record { outs = []; serial = s }
 -- does not come: there is one for each call
-keep (c ∷ cs) [] size s = record { outs = []; serial = s }
-keep (c ∷ cs) (f ∷ fs) size s =
-    record { outs = enter c f size s .out ∷ keep cs fs size (enter c f size s .serial) .outs; serial = keep cs fs size (enter c f size s .serial) .serial }
+serialRun (c ∷ cs) [] size s = record { outs = []; serial = s }
+serialRun (c ∷ cs) (f ∷ fs) size s =
+    record {
+      outs = serialCall c f size s .out ∷ serialRun cs fs size (serialCall c f size s .serial) .outs;
+      serial = serialRun cs fs size (serialCall c f size s .serial) .serial;
+    }
