@@ -4,3 +4,5 @@ pub mod Finishing
 pub mod Answering
 pub mod Accepting
 pub mod Proved
+pub mod Rereading
+pub mod Lawful

@@ -20,7 +20,7 @@ use Rattle.scheduler.specs.Scheduler.{settingsOf, jobAt, openAt, withJob, resta
 use Rattle.scheduler.specs.Refusals.{stepRefusal, dropRefusal}
 use Rattle.scheduler.specs.Calls.{called, isAck, steppedAs, movedOf, stepCalled, dropCalled}
 use Rattle.scheduler.specs.Runs.{Step, Drop, World, call}
-use Rattle.serial.proofs.Writing.{acks}
+use Rattle.serial.specs.Steps.{acks}
 
 -- ---- one job of the scheduler written anew; i is another
 

@@ -26,13 +26,7 @@ use Rattle.jobs.specs.declared.Ending.the-variants as K
 use Rattle.reread.specs.Reread.{holdsPassed}
 use Rattle.jobs.specs.Moves.{going, done, matchJob, commitMove, slotMove, slotTable, movedAt, movedTableAt}
 use Rattle.scheduler.specs.Calls.{isAck}
-
--- the job awaits Commit
-abbrev pub awaits : S.Stage → List ℕ → Bool
-awaits Free t = false
-awaits (Hash k) t = false
-awaits Check t = false
-awaits (Match k) t = not (ltb k (slotCount t))
+use Rattle.serial.specs.Steps.{awaits}
 
 -- the move ended in ACK
 abbrev pub acked : E.Ending → Bool

@@ -17,41 +17,13 @@ use Rattle.jobs.specs.declared.Moved as M
 use Rattle.jobs.specs.Moves.{moved, movedTable, replyAfter}
 use Rattle.scheduler.specs.declared.Scheduler as D
 use Rattle.scheduler.specs.declared.Called as C
-use Rattle.scheduler.specs.declared.Outcome as O′
 use Rattle.scheduler.specs.declared.Outcome.the-variants as O
 use Rattle.scheduler.specs.Scheduler.{settingsOf, jobAt, openAt, partOf}
 use Rattle.scheduler.specs.Refusals.{stepRefusal}
-use Rattle.scheduler.specs.Calls.{called, isAck, steppedAs, movedOf, stepCalled, stepTable, stepReply}
+use Rattle.scheduler.specs.Calls.{called, steppedAs, movedOf, stepCalled, stepTable, stepReply}
 use Rattle.scheduler.specs.Runs.{Step, World, call}
-use Rattle.serial.proofs.Sparing.{awaits, acked, stage-kept, stage-early}
-
--- an answer that is an ACK, and one that has a reply
-abbrev pub acks : O′.Outcome → Bool
-acks (O.Refused n) = false
-acks (O.Discarded d) = false
-acks (O.Opened j) = false
-acks O.Going = false
-acks (O.Done a) = isAck a
-acks O.Dropped = false
-acks (O.Started k) = false
-acks O.Ended = false
-
-abbrev pub replied : A′.Answer → Bool
-replied (A.Refused n) = false
-replied (A.Discarded d) = false
-replied (A.Stale skew) = false
-replied (A.Nak c skew n) = true
-replied (A.Ack k skew n) = true
-
-abbrev pub replies : O′.Outcome → Bool
-replies (O.Refused n) = false
-replies (O.Discarded d) = false
-replies (O.Opened j) = false
-replies O.Going = false
-replies (O.Done a) = replied a
-replies O.Dropped = false
-replies (O.Started k) = false
-replies O.Ended = false
+use Rattle.serial.specs.Steps.{replied, acks, replies, awaits}
+use Rattle.serial.proofs.Sparing.{acked, stage-kept, stage-early}
 
 -- ---- a step; j the job, b the reply buffer
 

@@ -1,2 +1,3 @@
 pub mod Serial
 pub mod Demand3
+pub mod Steps
