@@ -6,3 +6,4 @@ pub mod Accepting
 pub mod Proved
 pub mod Rereading
 pub mod Lawful
+pub mod Crossing
