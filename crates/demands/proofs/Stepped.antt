@@ -21,7 +21,7 @@ use Rattle.scheduler.specs.declared.Scheduler as D
 use Rattle.scheduler.specs.declared.Called as C
 use Rattle.scheduler.specs.declared.Outcome.the-variants as O
 use Rattle.scheduler.specs.Scheduler.{settingsOf, jobAt, openAt, withJob, partOf}
-use Rattle.scheduler.specs.Refusals.{stepRefusal}
+use Rattle.scheduler.specs.Refusals.{stepRefusal, dropRefusal}
 use Rattle.scheduler.specs.Calls.{called, steppedAs, movedOf, stepCalled, stepTable, stepReply}
 use Rattle.demands.specs.Demand1.{Comes}
 use Rattle.demands.proofs.Telling.{WhenRefused, WhenDone}
@@ -35,7 +35,7 @@ one-of false false false true h = refl
 one-of false false false false h = absurd (h refl)
 
 refusal-one : (f : ℕ → Bool) (size j : ℕ) (t b : List ℕ) → (stepRefusal f size j t b ≡ 0 → ⊥) → member (stepRefusal f size j t b) (1 ∷ 4 ∷ 5 ∷ 7 ∷ []) ≡ true
-unfolding stepRefusal
+unfolding stepRefusal dropRefusal
 refusal-one f size j t b h = one-of (eqb (slotCount t) 0) (ltb (length b) 4096) (not (eqb size 16384)) (ltb 3 j || not (f j)) h
 
 module _ (s : D.Scheduler) (t b store : List ℕ) (j : ℕ) where

@@ -38,7 +38,7 @@ pub record Admitted (f : ℕ → Bool) (size j : ℕ) (t b : List ℕ) : Type 0 
 
 module _ (f : ℕ → Bool) (size : ℕ) where
   pub step-admitted : (j : ℕ) (t b : List ℕ) → stepRefusal f size j t b ≡ 0 → Admitted f size j t b
-  unfolding stepRefusal
+  unfolding stepRefusal dropRefusal
   step-admitted j t b e =
       let first = passes (eqb (slotCount t) 0) 0 _ e in
       let fourth = passes (ltb (length b) 4096) 3 _ (first .1) in

@@ -11,7 +11,7 @@ use lib.ListN.{length}
 use Rattle.slots.specs.Slot.{slotCount}
 use Rattle.jobs.specs.declared.Job.{Job}
 use Rattle.scheduler.specs.Scheduler.{openAt}
-use Rattle.scheduler.specs.Refusals.{stepRefusal}
+use Rattle.scheduler.specs.Refusals.{stepRefusal, dropRefusal}
 
 module _ (js : List Job) (j : ℕ) (t b store : List ℕ) (n : ℕ) (slots : n ≡ slotCount t) where
   pub step-table : n ≡ 0 → 1 ≡ stepRefusal (openAt js) (length store) j t b
@@ -30,16 +30,16 @@ module _ (js : List Job) (j : ℕ) (t b store : List ℕ) (n : ℕ) (slots : n �
 
       module _ (long : length store ≡ 16384) where
         pub step-above : 3 < j → 7 ≡ stepRefusal (openAt js) (length store) j t b
-        unfolding stepRefusal
+        unfolding stepRefusal dropRefusal
         step-above h = rw (← slots, ne-eqb _ _ some, le-ltb _ _ room, eq-eqb _ _ long, lt-ltb _ _ h)
 
         module _ (below : j ≤ 3) (o : Bool) (is : o ≡ openAt js j) where
           pub step-free : o ≡ false → 7 ≡ stepRefusal (openAt js) (length store) j t b
-          unfolding stepRefusal
+          unfolding stepRefusal dropRefusal
           step-free h = rw (← slots, ne-eqb _ _ some, le-ltb _ _ room, eq-eqb _ _ long, le-ltb _ _ below, ← is, h)
 
           pub step-goes : o ≡ true → 0 ≡ stepRefusal (openAt js) (length store) j t b
-          unfolding stepRefusal
+          unfolding stepRefusal dropRefusal
           step-goes h = rw (← slots, ne-eqb _ _ some, le-ltb _ _ room, eq-eqb _ _ long, le-ltb _ _ below, ← is, h)
 
 -- ---- what no refusal tells
@@ -53,7 +53,7 @@ none-of false false true false v e = (refl, refl, refl)
 
 module _ (js : List Job) (j : ℕ) (t b store : List ℕ) (r : ℕ) (is : r ≡ stepRefusal (openAt js) (length store) j t b) (none : r ≡ 0) where
   tests : (ltb (length b) 4096 ≡ false) × (eqb (length store) 16384 ≡ true) × (ltb 3 j ≡ false)
-  unfolding stepRefusal
+  unfolding stepRefusal dropRefusal
   tests = none-of (eqb (slotCount t) 0) (ltb (length b) 4096) (eqb (length store) 16384) (ltb 3 j) (openAt js j) (sym is ∙ none)
 
   pub goes-room : 4096 ≤ length b
