@@ -16,7 +16,7 @@ use jobs::Stage;
 use reread::Again;
 
 // Where the place is a slot of the table it is examined; else the job awaits Commit.
-fn moved(
+fn match_or_commit(
     j: Job,
     k: usize,
     stamp: u32,
@@ -40,7 +40,7 @@ fn moved(
     j.commit(stamp, q, secret, t, reply, f, count, ends, sizes)
 }
 
-// On the store read again: the job is discarded as D1, or moved.
+// On the store read again: D1 where it no longer shows the request, else Match or Commit.
 fn at_slot(
     j: Job,
     k: usize,
@@ -62,7 +62,19 @@ fn at_slot(
     let n = j.length;
     match reread::passed(n, q, address, name, &mut count, &mut ends, &mut sizes) {
         Again::Gone => jobs::done(answers::Answer::Discarded(1)),
-        Again::Held(f, stamp) => moved(j, k, stamp, q, secret, t, reply, f, &count, &ends, &sizes),
+        Again::Held(f, stamp) => match_or_commit(
+            j,
+            k,
+            stamp,
+            q,
+            secret,
+            t,
+            reply,
+            f,
+            &count,
+            &ends,
+            &sizes,
+        ),
     }
 }
 

@@ -12,8 +12,8 @@ passed-requires : tie.Need-passed-requires
 unfolding zeros
 passed-requires c κs = (refl, refl, refl)
 
-moved-requires : tie.Need-moved-requires
-moved-requires c κs = (search (needs, held-stands), search needs)
+match-or-commit-requires : tie.Need-match-or-commit-requires
+match-or-commit-requires c κs = (search (needs, held-stands), search needs)
 
 returns : tie.Need-returns
 returns c = (search (needs, gone-move), (search (needs, gone-table), search (needs, discarded-reply)))
@@ -29,7 +29,7 @@ at-slot-spec =
     (λ c. search needs)
     (λ c κs. search needs)
     (λ c. search needs)
-    moved-requires
+    match-or-commit-requires
     returns
     (λ c. search needs)
     (λ c. search needs)

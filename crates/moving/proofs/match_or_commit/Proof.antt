@@ -1,11 +1,11 @@
--- `moving::moved` meets its contract: Match below the number of slots, else Commit.
+-- `moving::match_or_commit` meets its contract: Match below the number of slots, else Commit.
 -- Assumes nothing.
 use borrow.Author.Needs.{needs}
 use Rattle.jobs.proofs.Checked.{going-reply}
 use Rattle.jobs.proofs.Committed.{stands-sized, stands-surveyed, stands-once}
 use Rattle.moving.proofs.Slotted.{slot-here, match-here, match-table, commit-here, commit-table}
-use Rattle.moving.proofs.moved.Statement.{statement}
-use Rattle.moving.proofs.moved.Tie as tie
+use Rattle.moving.proofs.match_or_commit.Statement.{statement}
+use Rattle.moving.proofs.match_or_commit.Tie as tie
 
 match-slot-requires : tie.Need-match-slot-requires
 match-slot-requires c κs = ((search (needs, slot-here), search (needs, stands-sized), search (needs, stands-once)), search (needs, stands-surveyed))
@@ -16,8 +16,8 @@ returns c = (search (needs, match-here), (search (needs, match-table), search (n
 returns-2 : tie.Need-returns-2
 returns-2 c = (search (needs, commit-here), (search (needs, commit-table), search needs))
 
-pub moved-spec : {M : Type 1} → statement M
-moved-spec =
+pub match-or-commit-spec : {M : Type 1} → statement M
+match-or-commit-spec =
     tie.close
     (tie.spec
     (λ c κs. search needs)
