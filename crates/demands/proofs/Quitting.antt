@@ -106,7 +106,7 @@ commit-quits C j q t u =
 
 slot-by : (g : Settings) (j : B.Job) (k : ℕ) (q t : List ℕ) (f h : Bool) → holdsPassed g (j .length) q ≡ f
     → Quit (λ (a : D.Answer). ComesTo g j q a (P.Match k)) t (cond f (cond h t (commitTable q (j .marks) t)) t)
-      (cond f (cond h (going (matchJob j k q t)) (commitMove j q t)) (done (A.Discarded 1)))
+    (cond f (cond h (going (matchJob j k q t)) (commitMove j q t)) (done (A.Discarded 1)))
 slot-by g j k q t true true e = tt
 slot-by g j k q t true false e = commit-quits _ j q t (commitTable q (j .marks) t)
 slot-by g j k q t false h e = (refl, (e, refl), refl, refl)
