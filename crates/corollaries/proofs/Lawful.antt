@@ -23,5 +23,5 @@ laws =
       drop-made = O.drop-made;
       drop-table = O.drop-table;
       drop-store = O.drop-store;
-      never-reread = λ s new cs t store j b e. false≢true (discards-late s new cs t store j b 1 e);
+      never-reread = λ s new cs t store j b e. false≢true (discards-late s new cs t store j b _ e);
     }
