@@ -1,8 +1,8 @@
--- The scheduler as C holds it, and back. A job whose kind, place or Length is out of range reads as free; a length of secret or NAS-Identifier outside its
--- limits is brought inside. Of a scheduler of ours reading back changes nothing (a law).
+-- The scheduler as C holds it, and back. A job of an unknown kind, and one in Hash whose Length or block is none of a message's, reads as free; a length of secret or
+-- NAS-Identifier outside its limits is brought inside. Of a scheduler of ours reading back changes nothing (a law).
 -- Assumes nothing.
 use mathlib.Core.Bool.{Bool, cond, _&&_}
-use mathlib.Core.List.{List, map}
+use mathlib.Core.List.{map}
 use Prim.Native.Nat.{ℕ, _+_}
 use lib.Dec.{eqb, ltb, leb}
 use Rattle.blockwise.specs.Block.{blockCount}

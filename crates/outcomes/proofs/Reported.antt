@@ -14,7 +14,7 @@ use Rattle.layout.specs.declared.CScheduler as L
 use Rattle.layout.specs.Layout.{schedulerOut}
 use Rattle.outcomes.specs.declared.Report as R
 use Rattle.reports.specs.Numbers.{numberOf, changedBy, lengthBy, skewBy, stampedBy}
-use Rattle.outcomes.specs.Called.{plain, counted, stampedReport, answerReport, reportOf, calledOut, madeOut}
+use Rattle.outcomes.specs.Called.{plain, counted, answerReport, reportOf, calledOut, madeOut}
 
 module _ (a : A.Answer) (v : ℕ) (is : v ≡ numberOf a) (r : R.Report) where
   pub answer-refused : (n : ℕ) → a ≡ Y.Refused n → r ≡ plain v → r ≡ answerReport a
@@ -25,15 +25,15 @@ module _ (a : A.Answer) (v : ℕ) (is : v ≡ numberOf a) (r : R.Report) where
   unfolding answerReport changedBy lengthBy skewBy stampedBy
   answer-discarded d e h = h ∙ rw (is, e)
 
-  pub answer-stale : (k k′ : ℤ) → a ≡ Y.Stale k → r ≡ stampedReport k′ 0 0 v → k′ ≡ k → r ≡ answerReport a
+  pub answer-stale : (k k′ : ℤ) → a ≡ Y.Stale k → r ≡ record { skew = k′; count = 0; size = 0; answer = v; stamped = 1 } → k′ ≡ k → r ≡ answerReport a
   unfolding answerReport changedBy lengthBy skewBy stampedBy
   answer-stale k k′ e h g = h ∙ rw (g, is, e)
 
-  pub answer-nak : (c : Cause) (k k′ : ℤ) (n : ℕ) → a ≡ Y.Nak c k n → r ≡ stampedReport k′ 0 n v → k′ ≡ k → r ≡ answerReport a
+  pub answer-nak : (c : Cause) (k k′ : ℤ) (n : ℕ) → a ≡ Y.Nak c k n → r ≡ record { skew = k′; count = 0; size = n; answer = v; stamped = 1 } → k′ ≡ k → r ≡ answerReport a
   unfolding answerReport changedBy lengthBy skewBy stampedBy
   answer-nak c k k′ n e h g = h ∙ rw (g, is, e)
 
-  pub answer-ack : (k k′ : ℤ) (m n : ℕ) → a ≡ Y.Ack m k n → r ≡ stampedReport k′ m n v → k′ ≡ k → r ≡ answerReport a
+  pub answer-ack : (k k′ : ℤ) (m n : ℕ) → a ≡ Y.Ack m k n → r ≡ record { skew = k′; count = m; size = n; answer = v; stamped = 1 } → k′ ≡ k → r ≡ answerReport a
   unfolding answerReport changedBy lengthBy skewBy stampedBy
   answer-ack k k′ m n e h g = h ∙ rw (g, is, e)
 

@@ -1,7 +1,7 @@
 -- What a call on a scheduler hands to C: the scheduler after it, the answer's number, and the numbers beside it.
 -- Assumes nothing.
 use Prim.Native.Nat.{ℕ}
-use lib.IntN.{ℤ, pos}
+use lib.IntN.{pos}
 use Rattle.answers.specs.declared.Answer as A
 use Rattle.answers.specs.declared.Answer.the-variants as Y
 use Rattle.scheduler.specs.declared.Outcome as O
@@ -19,10 +19,6 @@ plain n = record { skew = pos 0; count = 0; size = 0; answer = n; stamped = 0 }
 
 abbrev pub counted : ℕ → R.Report
 counted k = record { skew = pos 0; count = k; size = 0; answer = 0; stamped = 0 }
-
--- a request with a usable stamp: skew, sessions changed, the reply's length, the answer
-abbrev pub stampedReport : ℤ → ℕ → ℕ → ℕ → R.Report
-stampedReport skew m n answer = record { skew = skew; count = m; size = n; answer = answer; stamped = 1 }
 
 -- a finished request: the numbers that whole handling gives for the same answer where they were 0 before it, so that there is one list of them
 unfoldable pub answerReport : A.Answer → R.Report

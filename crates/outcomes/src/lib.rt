@@ -1,6 +1,6 @@
 // What a call on a scheduler hands to C: the scheduler after it, and its numbers. It exports nothing.
 ghost use mathlib.Core.Path.{_≡_};
-ghost use Rattle.outcomes.specs.Called.{plain, counted, stampedReport, answerReport, reportOf, calledOut, madeOut};
+ghost use Rattle.outcomes.specs.Called.{plain, counted, answerReport, reportOf, calledOut, madeOut};
 use answers::Answer;
 use scheduler::Outcome;
 
@@ -46,8 +46,9 @@ fn counted(k: usize) -> Report
     }
 }
 
+// A request with a usable stamp: skew, sessions changed, the reply's length, the answer.
 fn stamped(skew: i64, m: usize, n: usize, answer: u32) -> Report
-    ensures { λ r. ⌜ r ≡ stampedReport skew m n answer ⌝ }
+    ensures { λ r. ⌜ r ≡ record { skew = skew; count = m; size = n; answer = answer; stamped = 1 } ⌝ }
 {
     Report {
         skew,

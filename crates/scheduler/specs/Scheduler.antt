@@ -41,7 +41,7 @@ restartAll s = withJobs s (map restarted (s .jobs))
 abbrev pub partOf : ℕ → List ℕ → List ℕ
 partOf j store = part (j * 4096) 4096 store
 
--- a scheduler that making and our calls can have produced, whatever was written to table and store between them
+-- what holds of every scheduler that making and our calls can have produced, whatever was written to table and store between them; all that the calls ask for
 pub record Ours (s : D.Scheduler) : Type 0 where
   pub secret-low : 1 ≤ s .«secret_size»
   pub secret-high : s .«secret_size» ≤ 64
