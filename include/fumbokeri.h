@@ -39,7 +39,7 @@
  *
  *   | answer     | meaning                                               |
  *   |------------|-------------------------------------------------------|
- *   | 0          | acknowledged (ACK); written; right                    |
+ *   | 0          | done: acknowledged (ACK); written; right; made, ..    |
  *   | 1 to 99    | refused: an argument is unfit, see below              |
  *   | 101 to 106 | the packet is to be discarded silently, see below     |
  *   | 201 to 206 | the reply is not right, see below                     |
@@ -75,16 +75,17 @@
  * not 600. A step is one of
  *
  *  - one 64-byte block of the request authenticator's MD5, at most 66 of them;
- *  - all of 104 to 106 and of 401 to 506, once;
+ *  - all of 104 to 106 and of the NAKs but 503, once;
  *  - one slot of the table, looked at for a match;
  *  - 503, or the changes and the ACK, once.
  *
  * Jobs may be stepped in any order, and sessions started and ended in between
  * by fbk_start() and fbk_end(). The answers, the replies and the table are
  * those of handling each request whole at the step that finished it. So an
- * ACK, a start and an end send all other jobs that look for matches back to
- * slot 0. A lone job is finished by its 132nd step, all open jobs by the
- * 912th, where nothing is opened, started, ended or dropped in between.
+ * ACK, a start and an end send all other jobs that look for matches, or have
+ * looked at all slots, back to slot 0. A lone job is finished by its 132nd
+ * step, all open jobs by the 912th, where nothing is opened, started, ended or
+ * dropped in between.
  *
  * **No outside writes.** All this holds as long as table and packet store are
  * written to by calls on this scheduler alone, and are the same ones in all

@@ -18,7 +18,7 @@ use Rattle.packets.specs.Packet.{lengthOf}
 use Rattle.settings.specs.Settings.{Settings}
 use Rattle.packets.specs.Discards.{badLength, badCode, badAttributes, formOf}
 use Rattle.rules.specs.Verdict.{verdictOf}
-use Rattle.examples.specs.Marked.{Marked}
+use Rattle.examples.specs.Marked.{Marked, MarkedExamples}
 use Rattle.examples.proofs.Echoed.{echo}
 use Rattle.examples.proofs.Naks.{nak-503}
 
@@ -43,7 +43,7 @@ later-stale : (stamp d : ℕ) → stale stamp (stamp + d) ≡ ltb 300 d
 unfolding stale
 later-stale stamp d = let e : (stamp - (stamp + d)) + (stamp + d - stamp) ≡ d = omega arith in ap (ltb 300) e
 
-pub marked : (g : Settings) (signed : Bool) (p : List ℕ) (clock : ℕ) → Marked g signed p clock
+marked : (g : Settings) (signed : Bool) (p : List ℕ) (clock : ℕ) → Marked g signed p clock
 unfolding verdictOf formOf badCode badAttributes be stepAt walkFrom blockCount live within stale skewOf
 marked g signed p clock =
     record {
@@ -63,3 +63,6 @@ marked g signed p clock =
       full-echo = λ t b stamp h sized coded tiles long once echoed filled signed usable fresh. echo g p clock stamp sized coded tiles long once echoed filled signed usable fresh t b h;
       session-not-found = λ t b skew n told c i proxies no-24 no-80. nak-503 g t b p clock skew n told no-24 no-80 proxies c i;
     }
+
+pub examples : MarkedExamples
+examples = record { table = marked }

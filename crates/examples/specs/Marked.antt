@@ -65,3 +65,6 @@ pub record Marked (g : Settings) (signed : Bool) (p : List ℕ) (clock : ℕ) : 
       → (handleReply g t b p clock
       ≡ write b 0 ((0x2A ∷ 0x07 ∷ 0x00 ∷ 0x1D ∷ []) ++ replyAuth (g .secret) p SessionNotFound ++ (0x65 ∷ 0x06 ∷ 0x00 ∷ 0x00 ∷ 0x01 ∷ 0xF7 ∷ 0x21 ∷ 0x03 ∷ 0x41 ∷ [])))
       × (length (replyAuth (g .secret) p SessionNotFound) ≡ 16) × (n ≡ 29)
+
+pub record MarkedExamples : Type 0 where
+  pub table : (g : Settings) (signed : Bool) (p : List ℕ) (clock : ℕ) → Marked g signed p clock
