@@ -29,7 +29,6 @@ use Rattle.answers.specs.declared.Answer.the-variants as A
 use Rattle.answers.specs.Commit.{countAnswer}
 use Rattle.handler.specs.Refusals.{refusalOf}
 use Rattle.handler.specs.Handle.{answerOf, handleAnswer}
-use Rattle.reply_check.specs.declared.Checked.the-variants.{Right}
 use Rattle.reply_check.specs.ReplyCheck.{checkAnswer}
 use Rattle.exchanges.proofs.Answered.{reply-passes}
 use Rattle.demands.specs.Answers.{silent}

@@ -24,7 +24,8 @@ use Rattle.packets.specs.Discards.{formOf}
 use Rattle.macs.specs.Discards.{badMac}
 use Rattle.rules.specs.Discards.{signedBy}
 use Rattle.rules.specs.Verdict.{applies, verdictOf}
-use Rattle.reply.specs.Reply.{statePart, causePart, proxyPart, macPart, replyMac, replyOf}
+use Rattle.frames.specs.Packets.{macValued}
+use Rattle.reply.specs.Reply.{statePart, causePart, proxyPart, maced, replyMac, replyOf}
 use Rattle.effects.specs.Matching.{matchesIn, matchCount}
 use Rattle.effects.specs.Changes.{alterationOf}
 use Rattle.answers.specs.declared.Answer.the-variants.{Refused, Nak, Ack}
@@ -64,7 +65,7 @@ pub record Carries (secret p r : List ℕ) (c : Cause) : Type 0 where
   pub identifier : identifierOf r ≡ identifierOf p
   pub authentic : authOf r ≡ authenticator (authOf p) r (lengthOf r) secret
   -- the first State, Error-Cause on NAK, every Proxy-State in order, and type 80 if the request had one
-  pub body : areaOf r ≡ (statePart (areaOf p) ++ causePart c ++ proxyPart (areaOf p)) ++ macPart p (replyMac secret p c)
+  pub body : areaOf r ≡ (statePart (areaOf p) ++ causePart c ++ proxyPart (areaOf p)) ++ macValued (maced p) (replyMac secret p c)
   -- it passes our reply check
   pub passes : checkAnswer secret p r ≡ Right
 

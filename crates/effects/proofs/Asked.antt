@@ -26,7 +26,6 @@ use Rattle.slots.specs.Slot.{slot}
 use Rattle.criteria.specs.Matching.{fieldBytes, meets, all, matches, matchesAt}
 use Rattle.criteria.specs.Marks.{marksAfter}
 use Rattle.criteria.proofs.Marked.{marks-same}
-use Rattle.causes.specs.declared.Cause.the-variants as C
 use Rattle.effects.specs.Kept.{ifKept, keptCriteria}
 use Rattle.effects.specs.Matching.{equalsField, allOf, sessionMatches, matchesIn}
 use Rattle.effects.proofs.Five.{asks, five, all-same, all-both, all-none}

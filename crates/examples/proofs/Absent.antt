@@ -14,7 +14,8 @@ use Rattle.signing.specs.Signing.{zeros}
 use Rattle.causes.specs.declared.Cause.{Cause}
 use Rattle.packets.specs.Packet.{areaOf}
 use Rattle.macs.specs.Discards.{wrongMac, badMac}
-use Rattle.reply.specs.Reply.{ifFound, statePart, causePart, proxyPart, bodyOf, macPart, replyLength}
+use Rattle.reply.specs.Reply.{ifFound, statePart, causePart, proxyPart, bodyOf, maced, replyLength}
+use Rattle.frames.specs.Packets.{macValued, packetLength}
 
 not-found : (x : Search) → found x ≡ false → x ≡ Missing
 not-found (At a) h = absurd (true≢false h)
@@ -29,8 +30,8 @@ module _ (p : List ℕ) (no-80 : any (kindIs 80) (attributes (areaOf p)) ≡ fal
       let m = only (kindIs 80) (wrongMac auth secret p) l (omega arith) ∙ ap (onFirst (wrongMac auth secret p)) (not-found (firstOf (kindIs 80) l) no-80) in
       rw (z, m)
 
-  pub no-part : (value : List ℕ) → macPart p value ≡ []
-  unfolding macPart
+  pub no-part : (value : List ℕ) → macValued (maced p) value ≡ []
+  unfolding macValued
   no-part value = rw no-80
 
 module _ (p : List ℕ) (no-24 : any (kindIs 24) (attributes (areaOf p)) ≡ false) where
@@ -44,5 +45,5 @@ module _ (p : List ℕ) (no-24 : any (kindIs 24) (attributes (areaOf p)) ≡ fal
 
 pub length-rest : (p : List ℕ) (c : Cause) → any (kindIs 24) (attributes (areaOf p)) ≡ false → any (kindIs 80) (attributes (areaOf p)) ≡ false
     → replyLength p c ≡ 20 + (length (causePart c) + length (proxyPart (areaOf p)))
-unfolding replyLength
+unfolding replyLength packetLength
 length-rest p c h g = rw (body-rest p h c, no-part p g zeros) (omega (arith, length-append (causePart c) (proxyPart (areaOf p))))

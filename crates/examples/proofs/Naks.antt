@@ -19,7 +19,8 @@ use Rattle.packets.specs.Packet.{codeOf, identifierOf, areaOf}
 use Rattle.settings.specs.Settings.{Settings}
 use Rattle.rules.specs.Discards.{signedBy}
 use Rattle.rules.specs.Verdict.{verdictOf}
-use Rattle.reply.specs.Reply.{causePart, proxyPart, bodyOf, replyLength, headOf, replyWith, replyMac, replyAuth, replyOf}
+use Rattle.replies.proofs.Back.{reply-parts}
+use Rattle.reply.specs.Reply.{causePart, proxyPart, bodyOf, replyLength, headOf, replyMac, replyAuth, replyOf}
 use Rattle.reply.proofs.Lengths.{length-replyAuth}
 use Rattle.effects.specs.Matching.{matchCount}
 use Rattle.answers.specs.declared.Answer.the-variants as A
@@ -72,8 +73,7 @@ module _ (g : Settings) (t b p : List ℕ) (clock : ℕ) (skew : ℤ) (n : ℕ) 
 
   bytes : codeOf p ≡ 40 → identifierOf p ≡ 7 → replyOf (g .secret) p SessionNotFound
       ≡ (0x2A ∷ 0x07 ∷ 0x00 ∷ 0x1D ∷ []) ++ replyAuth (g .secret) p SessionNotFound ++ (0x65 ∷ 0x06 ∷ 0x00 ∷ 0x00 ∷ 0x01 ∷ 0xF7 ∷ 0x21 ∷ 0x03 ∷ 0x41 ∷ [])
-  unfolding replyOf replyWith
-  bytes c i = rw (no-part p no-80 (replyMac (g .secret) p SessionNotFound), append-nil, head c i, body)
+  bytes c i = reply-parts (g .secret) p SessionNotFound ∙ rw (no-part p no-80 (replyMac (g .secret) p SessionNotFound), append-nil, head c i, body)
 
   pub nak-503 : codeOf p ≡ 40 → identifierOf p ≡ 7 → (handleReply g t b p clock
       ≡ write b 0 ((0x2A ∷ 0x07 ∷ 0x00 ∷ 0x1D ∷ []) ++ replyAuth (g .secret) p SessionNotFound ++ (0x65 ∷ 0x06 ∷ 0x00 ∷ 0x00 ∷ 0x01 ∷ 0xF7 ∷ 0x21 ∷ 0x03 ∷ 0x41 ∷ [])))

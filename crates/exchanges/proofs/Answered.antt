@@ -14,9 +14,9 @@ use Rattle.packets.specs.Packet.{codeOf, identifierOf, lengthOf, authOf}
 use Rattle.rules.specs.Verdict.{applies}
 use Rattle.packets.specs.Discards.{badLength, badAttributes, formOf, Sized}
 use Rattle.macs.specs.Discards.{badMac}
-use Rattle.reply.specs.Reply.{bodyOf, replyLength, headOf, replyOf}
+use Rattle.reply.specs.Reply.{bodyOf, maced, replyLength, headOf, replyOf}
 use Rattle.reply.proofs.Lengths.{length-auth}
-use Rattle.replies.proofs.Back.{maced, reply-is, length-is, reply-code, reply-identifier}
+use Rattle.replies.proofs.Back.{reply-is, length-is, reply-code, reply-identifier}
 use Rattle.replies.proofs.Tilings.{body-plain}
 use Rattle.replies.proofs.Passing.{packet-sized, packet-tiled, packet-authentic, packet-mac}
 use Rattle.reply_check.specs.ReplyCheck.{badRequest, badReply, wrongCode, wrongIdentifier, wrongAuthenticator, failureOf}

@@ -10,12 +10,12 @@ use lib.ListN.{length}
 use Rattle.attributes.specs.declared.Attribute.{Attribute}
 use Rattle.attributes.specs.Attributes.{attributes, valueOf}
 use Rattle.signing.specs.Signing.{zeros}
-use Rattle.signing.proofs.Messages.{length-messageAuthenticator}
 use Rattle.packets.specs.Packet.{areaOf}
-use Rattle.frames.proofs.Packets.{valued, packet, packetLength, packetMac}
+use Rattle.frames.specs.Packets.{macValued, packetMac}
+use Rattle.frames.proofs.Packets.{length-packetMac}
 use Rattle.replies.proofs.Readback.{signed-area}
 use Rattle.replies.proofs.Trailing.{trailing, trailer, trailing-attributes, trailing-value}
-use Rattle.requests.specs.Writer.{Draft, badGiven, macAdded, writeRefusal, requestLength, requestWith, requestMac, requestOf}
+use Rattle.requests.specs.Writer.{Draft, badGiven, writeRefusal, requestLength, requestHead, requestOf}
 use Rattle.requests.proofs.Refusals.{taken}
 use Rattle.exchanges.proofs.Requests.{request-is, length-is, plain-given, request-short}
 
@@ -23,9 +23,12 @@ use Rattle.exchanges.proofs.Requests.{request-is, length-is, plain-give
 abbrev pub added : Draft → Attribute
 added d = record { kind = 80; at = length (d .given); size = 18 }
 
+-- its value
+abbrev pub requestMac : List ℕ → Draft → List ℕ
+requestMac secret d = packetMac secret zeros (requestHead d) (d .given) (d .add)
+
 length-requestMac : (secret : List ℕ) (d : Draft) → length (requestMac secret d) ≡ 16
-unfolding requestMac
-length-requestMac secret d = length-messageAuthenticator _ _ _ _ _
+length-requestMac secret d = length-packetMac secret zeros (requestHead d) (d .given) (d .add)
 
 added-is : (d : Draft) (mac : List ℕ) → length mac ≡ 16 → trailing (d .given) mac ≡ added d
 added-is d mac h = let e : length mac + 2 ≡ 18 = omega arith in rw (e, add-zero)
@@ -34,23 +37,19 @@ trailer-is : (b : Bool) (d : Draft) (mac : List ℕ) → length mac ≡ 16 → t
 trailer-is true d mac h = ap (λ (a : Attribute). a ∷ []) (added-is d mac h)
 trailer-is false d mac h = refl
 
-mac-added : (d : Draft) (mac : List ℕ) → macAdded d mac ≡ valued (d .add) mac
-unfolding macAdded valued
-mac-added d mac = refl
-
 module _ (secret out : List ℕ) (d : Draft) (accepted : writeRefusal secret out d ≡ 0) where
   given : badGiven d ≡ false
   given = taken secret out d accepted .given
 
-  pub written-area : areaOf (requestOf secret d) ≡ d .given ++ macAdded d (requestMac secret d)
-  unfolding macAdded requestLength requestWith requestMac valued packet packetLength packetMac
+  pub written-area : areaOf (requestOf secret d) ≡ d .given ++ macValued (d .add) (requestMac secret d)
+  unfolding requestHead
   written-area = rw (request-is secret d) (signed-area secret zeros (d .given) (d .add) (d .code) (d .identifier) (requestLength d) (length-is d) (request-short d given))
 
   pub written-attributes : attributes (areaOf (requestOf secret d)) ≡ attributes (d .given) ++ cond (d .add) (added d ∷ []) []
   written-attributes =
       let mac = requestMac secret d in
       let long = length-requestMac secret d in
-      ap attributes (written-area ∙ ap (λ (s : List ℕ). d .given ++ s) (mac-added d mac))
+      ap attributes written-area
       ∙ trailing-attributes (d .given) mac (plain-given d given) long (d .add)
       ∙ ap (λ (l : List Attribute). attributes (d .given) ++ l) (trailer-is (d .add) d mac long)
 
@@ -58,6 +57,6 @@ module _ (secret out : List ℕ) (d : Draft) (accepted : writeRefusal secret out
   written-value h =
       let mac = requestMac secret d in
       let long = length-requestMac secret d in
-      ap (λ (s : List ℕ). valueOf s (added d)) (written-area ∙ ap (λ (s : List ℕ). d .given ++ s) (mac-added d mac ∙ ap (λ (b : Bool). valued b mac) h))
-      ∙ ap (valueOf (d .given ++ valued true mac)) (sym (added-is d mac long))
+      ap (λ (s : List ℕ). valueOf s (added d)) (written-area ∙ ap (λ (s : List ℕ). d .given ++ s) (ap (λ (b : Bool). macValued b mac) h))
+      ∙ ap (valueOf (d .given ++ macValued true mac)) (sym (added-is d mac long))
       ∙ trailing-value (d .given) mac (plain-given d given) long

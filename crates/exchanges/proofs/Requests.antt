@@ -13,11 +13,11 @@ use Rattle.packets.specs.Discards.{badCode, formOf}
 use Rattle.macs.specs.Discards.{badMac}
 use Rattle.rules.specs.Discards.{signedBy}
 use Rattle.frames.specs.Rooms.{macRoom}
-use Rattle.frames.proofs.Packets.{valued, packet, packetLength, packetMac, packetAuth, signedPacket}
+use Rattle.frames.specs.Packets.{macValued, packetLength, signedPacket}
 use Rattle.replies.proofs.Plain.{Plain}
 use Rattle.replies.proofs.Readback.{signed-code}
 use Rattle.replies.proofs.Passing.{packet-sized, packet-tiled, packet-authentic, packet-mac}
-use Rattle.requests.specs.Writer.{Draft, badGiven, macAdded, writeRefusal, requestLength, requestWith, requestMac, requestAuth, requestOf}
+use Rattle.requests.specs.Writer.{Draft, badGiven, writeRefusal, requestLength, requestHead, requestOf}
 use Rattle.requests.proofs.Refusals.{taken}
 use Rattle.requests.proofs.Requesting.{given-short}
 
@@ -26,11 +26,11 @@ abbrev pub signedRequest : List ℕ → Draft → List ℕ
 signedRequest secret d = signedPacket secret zeros (d .code ∷ d .identifier ∷ beBytes 2 (requestLength d)) (d .given) (d .add)
 
 pub request-is : (secret : List ℕ) (d : Draft) → requestOf secret d ≡ signedRequest secret d
-unfolding macAdded requestLength requestWith requestMac requestAuth requestOf valued packet packetLength packetMac packetAuth signedPacket
+unfolding requestHead requestOf
 request-is secret d = refl
 
 pub length-is : (d : Draft) → requestLength d ≡ packetLength (d .given) (d .add)
-unfolding macAdded requestLength valued packetLength
+unfolding requestLength
 length-is d = refl
 
 -- what R13 leaves
@@ -44,7 +44,7 @@ unfolding badGiven
 plain-given d h = plain-case (d .given) _ _ _ refl refl h
 
 pub request-short : (d : Draft) → badGiven d ≡ false → requestLength d ≤ 4096
-unfolding requestLength macAdded macRoom
+unfolding requestLength packetLength macValued macRoom
 request-short d h = omega (arith, given-short (d .given) (d .code) (d .identifier) (d .add) h)
 
 module _ (secret out : List ℕ) (d : Draft) (accepted : writeRefusal secret out d ≡ 0) where

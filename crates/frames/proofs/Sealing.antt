@@ -13,7 +13,8 @@ use Rattle.signing.specs.Signing.{zeros, authenticator, messageAuthenticator}
 use Rattle.signing.proofs.Messages.{Alike, same-first, same-authenticator, same-messageAuthenticator, length-zeros}
 use Rattle.frames.specs.Rooms.{withMac}
 use Rattle.frames.proofs.Writes.{write-last, write-middle}
-use Rattle.frames.proofs.Packets.{valued, packet, packetLength, packetMac, packetAuth, signedPacket, length-packet, length-packetMac, length-packetAuth, packet-low, ends-in, no-value}
+use Rattle.frames.specs.Packets.{macValued, packet, packetLength, packetMac, packetAuth, signedPacket}
+use Rattle.frames.proofs.Packets.{length-packet, length-packetMac, length-packetAuth, packet-low, ends-in, no-value}
 
 -- a packet at the start of a buffer is signed as by itself
 alike : (l m : List ℕ) (n : ℕ) → length m ≡ n → n ≤ length l → 4 ≤ n → Alike n (write l 0 m) m
@@ -85,7 +86,7 @@ module _ (secret base head body l : List ℕ) (present : Bool) (four : length he
       let b : length auth ≡ 16 = length-packetAuth secret base head body present in
       let at : 4 ≡ 0 + length head = omega arith in
       rw (append-assoc (head ++ base), append-assoc (head ++ auth))
-      (write-middle l 0 4 head base auth (body ++ valued present mac) at (sixteen ∙ sym b))
+      (write-middle l 0 4 head base auth (body ++ macValued present mac) at (sixteen ∙ sym b))
 
   -- t is the buffer with head and attributes, b says whether type 80 is there
   pub sealed : (b : Bool) (t t₁ t₂ : List ℕ) → b ≡ present → t ≡ write l 0 (packet head body present base zeros)

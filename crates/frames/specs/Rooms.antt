@@ -1,5 +1,5 @@
 -- Room for the Message-Authenticator at the end of a packet, and the Message-Authenticator in it.
--- For inner contracts and proofs: the reply is in reply/specs/Reply.antt, the request that our writer writes in requests/specs/Writer.antt.
+-- For inner contracts and proofs: the packet with its signatures is in frames/specs/Packets.antt.
 -- Assumes nothing.
 use mathlib.Core.Bool.{Bool, cond}
 use mathlib.Core.List.{List, [], _∷_}

@@ -11,8 +11,6 @@ use lib.ListN.{length}
 use Rattle.octets.specs.Runs.{part, equalBytes}
 use Rattle.signing.specs.Signing.{zeros, authenticator}
 use Rattle.slots.specs.Slot.{slotCount}
-use Rattle.rules.specs.declared.Verdict as R
-use Rattle.rules.specs.declared.Verdict.the-variants as J
 use Rattle.settings.specs.Settings.{Settings, badSecret, badName}
 use Rattle.packets.specs.Discards.{formOf, Sized}
 use Rattle.rules.specs.Discards.{signedBy}

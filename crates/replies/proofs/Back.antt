@@ -1,33 +1,32 @@
 -- The reply read back, part by part: it is a packet, so each is found where a packet has it.
 -- Assumes nothing.
 use mathlib.Core.Path.{_≡_, refl}
-use mathlib.Core.Bool.{Bool, cond}
+use mathlib.Core.Bool.{cond}
 use mathlib.Core.List.{List, _++_}
 use Prim.Native.Nat.{ℕ, _+_, _≤_}
-use Rattle.attributes.specs.Attributes.{attributes, any, kindIs}
 use Rattle.causes.specs.declared.Cause.{Cause}
 use Rattle.packets.specs.Packet.{codeOf, identifierOf, lengthOf, authOf, areaOf}
 use Rattle.rules.specs.Verdict.{applies}
-use Rattle.reply.specs.Reply.{bodyOf, macPart, replyLength, headOf, replyWith, replyMac, replyAuth, replyOf}
-use Rattle.frames.proofs.Packets.{valued, packet, packetLength, packetMac, packetAuth, signedPacket}
+use Rattle.reply.specs.Reply.{bodyOf, maced, replyLength, headOf, replyMac, replyAuth, replyOf}
+use Rattle.frames.specs.Packets.{macValued, packet, packetLength, packetMac, signedPacket}
 use Rattle.replies.proofs.Readback.{signed-code, signed-identifier, signed-length, signed-auth, signed-area}
-
--- the request has a type 80
-abbrev pub maced : List ℕ → Bool
-maced p = any (kindIs 80) (attributes (areaOf p))
 
 module _ (secret p : List ℕ) (c : Cause) where
   pub reply-is : replyOf secret p c ≡ signedPacket secret (authOf p) (headOf p c) (bodyOf p c) (maced p)
-  unfolding replyLength replyWith replyMac replyAuth replyOf macPart valued packet packetLength packetMac packetAuth signedPacket
+  unfolding replyOf
   reply-is = refl
 
   pub mac-is : replyMac secret p c ≡ packetMac secret (authOf p) (headOf p c) (bodyOf p c) (maced p)
-  unfolding replyLength replyWith replyMac macPart valued packet packetLength packetMac
+  unfolding replyMac
   mac-is = refl
 
   pub length-is : replyLength p c ≡ packetLength (bodyOf p c) (maced p)
-  unfolding replyLength macPart valued packetLength
+  unfolding replyLength
   length-is = refl
+
+  pub reply-parts : replyOf secret p c ≡ headOf p c ++ replyAuth secret p c ++ bodyOf p c ++ macValued (maced p) (replyMac secret p c)
+  unfolding replyOf replyAuth replyMac signedPacket packet
+  reply-parts = refl
 
   pub reply-code : codeOf (replyOf secret p c) ≡ codeOf p + cond (applies c) 2 1
   unfolding headOf
@@ -42,9 +41,9 @@ module _ (secret p : List ℕ) (c : Cause) where
   reply-length h = rw reply-is (signed-length secret (authOf p) (bodyOf p c) (maced p) _ (identifierOf p) (replyLength p c) h)
 
   pub reply-auth : authOf (replyOf secret p c) ≡ replyAuth secret p c
-  unfolding headOf replyLength replyWith replyMac replyAuth replyOf macPart valued packet packetLength packetMac packetAuth signedPacket
+  unfolding headOf replyAuth replyOf
   reply-auth = signed-auth secret (authOf p) (bodyOf p c) (maced p) _ (identifierOf p) (replyLength p c)
 
-  pub reply-area : replyLength p c ≤ 4096 → areaOf (replyOf secret p c) ≡ bodyOf p c ++ macPart p (replyMac secret p c)
-  unfolding headOf replyLength replyWith replyMac replyAuth replyOf macPart valued packet packetLength packetMac packetAuth signedPacket
+  pub reply-area : replyLength p c ≤ 4096 → areaOf (replyOf secret p c) ≡ bodyOf p c ++ macValued (maced p) (replyMac secret p c)
+  unfolding headOf replyMac replyOf
   reply-area h = signed-area secret (authOf p) (bodyOf p c) (maced p) _ (identifierOf p) (replyLength p c) length-is h

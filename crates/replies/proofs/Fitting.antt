@@ -18,7 +18,8 @@ use Rattle.causes.specs.Causes.{errorCause}
 use Rattle.packets.specs.Packet.{areaOf}
 use Rattle.packets.specs.Discards.{Sized}
 use Rattle.rules.specs.Verdict.{applies}
-use Rattle.reply.specs.Reply.{statePart, causePart, proxyPart, bodyOf, macPart, replyLength}
+use Rattle.reply.specs.Reply.{statePart, causePart, proxyPart, bodyOf, replyLength}
+use Rattle.frames.specs.Packets.{macValued, packetLength}
 use Rattle.replies.proofs.Sums.{sumOf, total-fits, first-size, length-found, length-proxies, four-types}
 
 cause-case : (b : Bool) (v : List ℕ) → length v ≡ 4 → length (cond b (101 ∷ 6 ∷ v) []) ≤ 6
@@ -44,7 +45,7 @@ mac-case false z n f h = omega arith
 -- type 55 has length 6, and type 80, where it stands, length 18
 pub reply-fits : (p : List ℕ) (n : ℕ) (c : Cause) → Sized p n → sizeOf (firstOf (kindIs 55) (attributes (areaOf p))) ≡ 6
     → (any (kindIs 80) (attributes (areaOf p)) ≡ true → sizeOf (firstOf (kindIs 80) (attributes (areaOf p))) ≡ 18) → replyLength p c ≤ n
-unfolding replyLength bodyOf macPart
+unfolding replyLength bodyOf packetLength macValued
 reply-fits p n c sized stamp mac =
     let s = areaOf p in
     let l = attributes s in

@@ -17,7 +17,8 @@ use Rattle.signing.proofs.Messages.{length-zeros}
 use Rattle.packets.specs.Packet.{lengthOf, authOf, areaOf}
 use Rattle.packets.specs.Discards.{badLength, badAttributes}
 use Rattle.macs.specs.Discards.{wrongMac, badMac}
-use Rattle.frames.proofs.Packets.{valued, packetLength, packetMac, packetAuth, signedPacket, length-signed, length-packetMac, packet-low}
+use Rattle.frames.specs.Packets.{macValued, packetLength, packetMac, packetAuth, signedPacket}
+use Rattle.frames.proofs.Packets.{length-signed, length-packetMac, packet-low}
 use Rattle.replies.proofs.Plain.{Plain}
 use Rattle.replies.proofs.Trailing.{trailing, trailer, trailing-first, trailing-once, trailing-tiled, trailing-value}
 use Rattle.replies.proofs.Readback.{head-four, signed-length, signed-auth, signed-area}
@@ -35,7 +36,7 @@ module _ (secret base body : List ℕ) (present : Bool) (k i n : ℕ) (plain : P
   named : lengthOf (signedPacket secret base (k ∷ i ∷ beBytes 2 n) body present) ≡ packetLength body present
   named = signed-length secret base body present k i n short ∙ is
 
-  area : areaOf (signedPacket secret base (k ∷ i ∷ beBytes 2 n) body present) ≡ body ++ valued present mac
+  area : areaOf (signedPacket secret base (k ∷ i ∷ beBytes 2 n) body present) ≡ body ++ macValued present mac
   unfolding mac
   area = signed-area secret base body present k i n is short
 
@@ -44,7 +45,7 @@ module _ (secret base body : List ℕ) (present : Bool) (k i n : ℕ) (plain : P
   maced h = packet-maced secret base (k ∷ i ∷ beBytes 2 n) body present (head-four secret base body present k i n) sixteen h
 
   with-type : present ≡ true → packetLength body present ≡ 38 + length body
-  unfolding packetLength valued
+  unfolding packetLength macValued
   with-type h = rw h (omega (arith, length-zeros))
 
   pub packet-sized : badLength (signedPacket secret base (k ∷ i ∷ beBytes 2 n) body present) ≡ false
@@ -76,7 +77,7 @@ module _ (secret base body : List ℕ) (present : Bool) (k i n : ℕ) (plain : P
       let size : length mac + 2 ≡ 18 = omega (arith, long-mac) in
       let at : 22 + (length body + 0) ≡ packetLength body present - 16 = omega (arith, with-type h) in
       let value : valueOf (areaOf (signedPacket secret base (k ∷ i ∷ beBytes 2 n) body present)) (trailing body mac) ≡ mac =
-      ap (λ (s : List ℕ). valueOf s (trailing body mac)) (area ∙ ap (λ (b : Bool). body ++ valued b mac) h) ∙ trailing-value body mac plain long-mac in
+      ap (λ (s : List ℕ). valueOf s (trailing body mac)) (area ∙ ap (λ (b : Bool). body ++ macValued b mac) h) ∙ trailing-value body mac plain long-mac in
       let own : messageAuthenticator base (signedPacket secret base (k ∷ i ∷ beBytes 2 n) body present) (packetLength body present) (packetLength body present - 16) secret ≡ mac =
       maced h in
       rw (value, named, at, own, eq-eqb (length mac + 2) 18 size, equal-refl mac)
@@ -90,6 +91,6 @@ module _ (secret base body : List ℕ) (present : Bool) (k i n : ℕ) (plain : P
   unfolding badMac
   packet-mac =
       rw (area, le-ltb _ _ (trailing-once body mac plain long-mac present))
-      (only (kindIs 80) (wrongMac base secret (signedPacket secret base (k ∷ i ∷ beBytes 2 n) body present)) (attributes (body ++ valued present mac)) (trailing-once body mac plain long-mac present)
+      (only (kindIs 80) (wrongMac base secret (signedPacket secret base (k ∷ i ∷ beBytes 2 n) body present)) (attributes (body ++ macValued present mac)) (trailing-once body mac plain long-mac present)
       ∙ ap (onFirst (wrongMac base secret (signedPacket secret base (k ∷ i ∷ beBytes 2 n) body present))) (trailing-first body mac plain long-mac present)
       ∙ right present refl)

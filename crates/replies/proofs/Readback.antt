@@ -11,7 +11,8 @@ use Rattle.octets.specs.Numbers.{beBytes}
 use Rattle.octets.specs.Runs.{part}
 use Rattle.octets.proofs.Numbers.{be-two, length-beBytes}
 use Rattle.packets.specs.Packet.{codeOf, identifierOf, lengthOf, authOf, areaOf}
-use Rattle.frames.proofs.Packets.{valued, packet, packetLength, packetMac, packetAuth, signedPacket, length-packet, length-packetMac, length-packetAuth}
+use Rattle.frames.specs.Packets.{macValued, packet, packetLength, packetMac, packetAuth, signedPacket}
+use Rattle.frames.proofs.Packets.{length-packet, length-packetMac, length-packetAuth}
 
 -- the middle and the end of a list of parts
 part-middle : (x v y : List ℕ) (i n : ℕ) → length x ≡ i → length v ≡ n → part i n (x ++ v ++ y) ≡ v
@@ -25,35 +26,35 @@ part-last x y i n h g = rw (drop-at x y i h) (take-all n y g)
 -- of a packet with any two signatures of 16 bytes
 module _ (head body : List ℕ) (present : Bool) (auth mac : List ℕ) (four : length head ≡ 4) (la : length auth ≡ 16) (lm : length mac ≡ 16) where
   -- what stands before the attributes, and the attributes
-  in-two : packet head body present auth mac ≡ (head ++ auth) ++ (body ++ valued present mac)
+  in-two : packet head body present auth mac ≡ (head ++ auth) ++ (body ++ macValued present mac)
   unfolding packet
-  in-two = append-assoc (head ++ auth) body (valued present mac)
+  in-two = append-assoc (head ++ auth) body (macValued present mac)
 
   length-front : length (head ++ auth) ≡ 20
   length-front = rw length-append (omega arith)
 
   pub with-head : take 4 (packet head body present auth mac) ≡ head
-  with-head = rw (in-two, append-assoc head auth (body ++ valued present mac)) (take-at head (auth ++ (body ++ valued present mac)) 4 four)
+  with-head = rw (in-two, append-assoc head auth (body ++ macValued present mac)) (take-at head (auth ++ (body ++ macValued present mac)) 4 four)
 
   with-auth : authOf (packet head body present auth mac) ≡ auth
-  with-auth = rw in-two (part-middle head auth (body ++ valued present mac) 4 16 four la)
+  with-auth = rw in-two (part-middle head auth (body ++ macValued present mac) 4 16 four la)
 
   -- from place 20 on, as many as there are
-  with-area : (n : ℕ) → packetLength body present ≤ 20 + n → part 20 n (packet head body present auth mac) ≡ body ++ valued present mac
+  with-area : (n : ℕ) → packetLength body present ≤ 20 + n → part 20 n (packet head body present auth mac) ≡ body ++ macValued present mac
   with-area n h =
       let l = length-packet head body present auth mac four la lm in
-      let k = ap length in-two ∙ length-append (head ++ auth) (body ++ valued present mac) in
-      rw in-two (part-last (head ++ auth) (body ++ valued present mac) 20 n length-front (omega (arith, k, l, length-front)))
+      let k = ap length in-two ∙ length-append (head ++ auth) (body ++ macValued present mac) in
+      rw in-two (part-last (head ++ auth) (body ++ macValued present mac) 20 n length-front (omega (arith, k, l, length-front)))
 
   -- what the signatures look at, from place 20 on
-  pub with-behind : drop 20 (take (packetLength body present) (packet head body present auth mac)) ≡ body ++ valued present mac
+  pub with-behind : drop 20 (take (packetLength body present) (packet head body present auth mac)) ≡ body ++ macValued present mac
   unfolding part
   with-behind =
       let n = packetLength body present in
       let r = packet head body present auth mac in
       let l = length-packet head body present auth mac four la lm in
       let all : take n r ≡ r = take-all n r (omega arith) in
-      let rest : take n (drop 20 r) ≡ body ++ valued present mac = with-area n (omega arith) in
+      let rest : take n (drop 20 r) ≡ body ++ macValued present mac = with-area n (omega arith) in
       ap (drop 20) all ∙ sym (take-all n (drop 20 r) (short n r (omega arith))) ∙ rest
     where
       short : (n : ℕ) (x : List ℕ) → length x ≤ n → length (drop 20 x) ≤ n
@@ -82,12 +83,12 @@ module _ (secret base body : List ℕ) (present : Bool) (k i n : ℕ) where
   unfolding signedPacket
   signed-auth = with-auth (k ∷ i ∷ beBytes 2 n) body present _ _ head-four (length-packetAuth secret base (k ∷ i ∷ beBytes 2 n) body present) (length-packetMac secret base (k ∷ i ∷ beBytes 2 n) body present)
 
-  fills : n ≡ packetLength body present → part 20 (n - 20) (signedPacket secret base (k ∷ i ∷ beBytes 2 n) body present) ≡ body ++ valued present (packetMac secret base (k ∷ i ∷ beBytes 2 n) body present)
+  fills : n ≡ packetLength body present → part 20 (n - 20) (signedPacket secret base (k ∷ i ∷ beBytes 2 n) body present) ≡ body ++ macValued present (packetMac secret base (k ∷ i ∷ beBytes 2 n) body present)
   unfolding signedPacket
   fills e =
       with-area (k ∷ i ∷ beBytes 2 n) body present _ _ head-four (length-packetAuth secret base (k ∷ i ∷ beBytes 2 n) body present)
       (length-packetMac secret base (k ∷ i ∷ beBytes 2 n) body present) (n - 20) (omega arith)
 
   pub signed-area : n ≡ packetLength body present → n ≤ 4096
-      → areaOf (signedPacket secret base (k ∷ i ∷ beBytes 2 n) body present) ≡ body ++ valued present (packetMac secret base (k ∷ i ∷ beBytes 2 n) body present)
+      → areaOf (signedPacket secret base (k ∷ i ∷ beBytes 2 n) body present) ≡ body ++ macValued present (packetMac secret base (k ∷ i ∷ beBytes 2 n) body present)
   signed-area e h = rw (signed-length h) (fills e)

@@ -10,7 +10,6 @@ use lib.Dec.{eqb, lit<}
 use lib.ListN.{length, length-append}
 use Rattle.octets.specs.Runs.{part, write}
 use Rattle.octets.proofs.Write.{write-then}
-use Rattle.attributes.specs.Attributes.{attributes, any, kindIs}
 use Rattle.signing.specs.Signing.{zeros, authenticator}
 use Rattle.survey.specs.declared.Flags.{Flags}
 use Rattle.survey.specs.Survey.{Surveyed, seenAt}
@@ -19,11 +18,11 @@ use Rattle.causes.specs.declared.Cause.{Cause}
 use Rattle.packets.specs.Packet.{codeOf, authOf, areaOf}
 use Rattle.packets.specs.Discards.{formOf, badLength, badCode, badAttributes, Sized}
 use Rattle.packets.proofs.Areas.{area-of}
-use Rattle.reply.specs.Reply.{statePart, causePart, proxyPart, bodyOf, macPart, replyLength, headOf, replyWith, replyMac, replyAuth, replyOf}
+use Rattle.reply.specs.Reply.{statePart, causePart, proxyPart, bodyOf, maced, replyLength, headOf, replyOf}
 use Rattle.frames.specs.Rooms.{macRoom, withMac}
 use Rattle.frames.proofs.Writes.{write-before}
 use Rattle.reply.proofs.Lengths.{length-auth, length-head}
-use Rattle.frames.proofs.Packets.{valued, packet, packetLength, packetMac, packetAuth, signedPacket}
+use Rattle.frames.specs.Packets.{macValued, packet, packetLength}
 use Rattle.frames.proofs.Sealing.{sealed}
 
 -- a request's code is 40 or 43
@@ -46,36 +45,36 @@ module _ (p s : List ℕ) (n : ℕ) (c : Cause) (sized : Sized p n) (area : s �
   body-is = rw (area-of s p n area sized)
 
   pub body-fits : (m : ℕ) → replyLength p c ≤ 4096 → 4096 ≤ m → 20 + length (statePart s ++ causePart c ++ proxyPart s) ≤ m
-  unfolding replyLength
+  unfolding replyLength packetLength
   body-fits m h g = rw body-is (omega arith)
 
   module _ (f : Flags) (count ends sizes : List ℕ) (surveyed : Surveyed (areaOf p) (codeOf p) f count ends sizes) (present : Bool) (seen : present ≡ seenAt count 80)
       (b : ℕ) (hb : b ≡ 20 + length (statePart s ++ causePart c ++ proxyPart s)) where
-    present-is : present ≡ any (kindIs 80) (attributes (areaOf p))
+    present-is : present ≡ maced p
     present-is = seen ∙ seen-any (areaOf p) (codeOf p) f count ends sizes surveyed 80 (lit< tt) (λ e. omega arith)
 
-    room-is : macRoom present ≡ macPart p zeros
-    unfolding macRoom macPart
+    room-is : macRoom present ≡ macValued (maced p) zeros
+    unfolding macRoom macValued
     room-is = rw present-is
 
     pub room-fits : (m k : ℕ) → replyLength p c ≤ 4096 → 4096 ≤ m → k ≡ m → b + length (macRoom present) ≤ k
-    unfolding replyLength
+    unfolding replyLength packetLength
     room-fits m k h g i = rw (hb, body-is, room-is) (omega arith)
 
     module _ (e : ℕ) (he : e ≡ b + length (macRoom present)) where
       pub end-is : e ≡ replyLength p c
-      unfolding replyLength
+      unfolding replyLength packetLength
       end-is = he ∙ rw (hb, body-is, room-is)
 
       -- l is the buffer before the calls
       pub replied : (secret auth l t₁ t₂ t₃ t₄ t₅ : List ℕ) → auth ≡ part 4 16 p → replyLength p c ≤ 4096 → 4096 ≤ length l
           → t₁ ≡ write l 20 (statePart s ++ causePart c ++ proxyPart s) → t₂ ≡ write t₁ b (macRoom present) → t₃ ≡ write t₂ 0 (headOf p c ++ auth)
           → t₄ ≡ withMac present auth t₃ e secret → t₅ ≡ write t₄ 4 (authenticator auth t₄ e secret) → t₅ ≡ write l 0 (replyOf secret p c)
-      unfolding replyWith replyLength replyMac replyAuth replyOf macPart packet packetLength valued packetMac packetAuth signedPacket
+      unfolding replyLength replyOf packet packetLength
       replied secret auth l t₁ t₂ t₃ t₄ t₅ ea h g e₁ e₂ e₃ e₄ e₅ =
-          let w₂ : t₂ ≡ write l 20 (bodyOf p c ++ macPart p zeros) = write-then t₁ t₂ l 20 b (bodyOf p c) (macPart p zeros) (e₁ ∙ rw body-is) (e₂ ∙ rw room-is) (hb ∙ rw body-is) in
+          let w₂ : t₂ ≡ write l 20 (bodyOf p c ++ macValued (maced p) zeros) = write-then t₁ t₂ l 20 b (bodyOf p c) (macValued (maced p) zeros) (e₁ ∙ rw body-is) (e₂ ∙ rw room-is) (hb ∙ rw body-is) in
           let front : 20 ≡ 0 + length (headOf p c ++ auth) = omega (arith, length-append (headOf p c) auth, length-head p c, auth-long p auth n sized ea) in
-          let w₃ : t₃ ≡ write l 0 (replyWith p c (authOf p) zeros) =
-          write-before t₂ t₃ l 0 20 (headOf p c ++ auth) (bodyOf p c ++ macPart p zeros) w₂ e₃ front ∙ rw (ea, ← (append-assoc (headOf p c ++ authOf p))) in
-          sealed secret (authOf p) (headOf p c) (bodyOf p c) l (any (kindIs 80) (attributes (areaOf p))) (length-head p c) (length-auth p n sized) (omega arith)
+          let w₃ : t₃ ≡ write l 0 (packet (headOf p c) (bodyOf p c) (maced p) (authOf p) zeros) =
+          write-before t₂ t₃ l 0 20 (headOf p c ++ auth) (bodyOf p c ++ macValued (maced p) zeros) w₂ e₃ front ∙ rw (ea, ← (append-assoc (headOf p c ++ authOf p))) in
+          sealed secret (authOf p) (headOf p c) (bodyOf p c) l (maced p) (length-head p c) (length-auth p n sized) (omega arith)
           present t₃ t₄ t₅ present-is w₃ (e₄ ∙ rw (ea, end-is)) (e₅ ∙ rw (ea, end-is))

@@ -10,15 +10,14 @@ use Rattle.signing.specs.Signing.{authenticator, messageAuthenticator}
 use Rattle.causes.specs.declared.Cause.{Cause}
 use Rattle.packets.specs.Packet.{authOf, areaOf}
 use Rattle.packets.specs.Discards.{Sized}
-use Rattle.reply.specs.Reply.{bodyOf, macPart, replyLength, headOf, replyWith, replyMac, replyAuth, replyOf}
+use Rattle.reply.specs.Reply.{bodyOf, maced, replyLength, headOf, replyMac, replyAuth, replyOf}
 use Rattle.reply.proofs.Lengths.{length-auth, length-head}
-use Rattle.frames.proofs.Packets.{valued, packet, packetLength, packetMac, packetAuth, signedPacket}
-use Rattle.replies.proofs.Back.{maced, reply-auth}
+use Rattle.replies.proofs.Back.{reply-auth}
 use Rattle.replies.proofs.Signatures.{packet-signed, packet-value, packet-maced}
 
 module _ (secret p : List ℕ) (n : ℕ) (c : Cause) (sized : Sized p n) where
   right-auth : authenticator (authOf p) (replyOf secret p c) (replyLength p c) secret ≡ replyAuth secret p c
-  unfolding replyLength replyWith replyMac replyAuth replyOf macPart valued packet packetLength packetMac packetAuth signedPacket
+  unfolding replyLength replyMac replyAuth replyOf
   right-auth = packet-signed secret (authOf p) (headOf p c) (bodyOf p c) (maced p) (length-head p c) (length-auth p n sized)
 
   -- the response authenticator
@@ -28,11 +27,11 @@ module _ (secret p : List ℕ) (n : ℕ) (c : Cause) (sized : Sized p n) where
   -- type 80: its value ends the reply
   module _ (h : any (kindIs 80) (attributes (areaOf p)) ≡ true) where
     pub reply-value : part (replyLength p c - 16) 16 (replyOf secret p c) ≡ replyMac secret p c
-    unfolding replyLength replyWith replyMac replyAuth replyOf macPart valued packet packetLength packetMac packetAuth signedPacket
+    unfolding replyLength replyMac replyAuth replyOf
     reply-value = packet-value secret (authOf p) (headOf p c) (bodyOf p c) (maced p) (length-head p c) (length-auth p n sized) h
 
     right-mac : messageAuthenticator (authOf p) (replyOf secret p c) (replyLength p c) (replyLength p c - 16) secret ≡ replyMac secret p c
-    unfolding replyLength replyWith replyMac replyAuth replyOf macPart valued packet packetLength packetMac packetAuth signedPacket
+    unfolding replyLength replyMac replyAuth replyOf
     right-mac = packet-maced secret (authOf p) (headOf p c) (bodyOf p c) (maced p) (length-head p c) (length-auth p n sized) h
 
     -- the Message-Authenticator over the request's authenticator

@@ -12,7 +12,8 @@ use Rattle.octets.proofs.Write.{write-end}
 use Rattle.signing.specs.Signing.{zeros, authenticator, messageAuthenticator}
 use Rattle.signing.proofs.Blanked.{value-ignored}
 use Rattle.signing.proofs.Messages.{Alike, same-authenticator, same-messageAuthenticator, length-zeros}
-use Rattle.frames.proofs.Packets.{packet, packetLength, packetMac, packetAuth, signedPacket, length-packet, length-packetMac, length-packetAuth, ends-in}
+use Rattle.frames.specs.Packets.{packet, packetLength, packetMac, packetAuth, signedPacket}
+use Rattle.frames.proofs.Packets.{length-packet, length-packetMac, length-packetAuth, ends-in}
 use Rattle.replies.proofs.Readback.{with-head, with-behind, part-last}
 
 module _ (secret base head body : List ℕ) (present : Bool) (four : length head ≡ 4) (sixteen : length base ≡ 16) where

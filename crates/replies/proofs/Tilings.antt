@@ -22,10 +22,9 @@ use Rattle.causes.specs.declared.Cause.{Cause}
 use Rattle.causes.specs.Causes.{errorCause}
 use Rattle.packets.specs.Packet.{areaOf}
 use Rattle.rules.specs.Verdict.{applies}
-use Rattle.reply.specs.Reply.{asCame, ifFound, statePart, causePart, proxiesIn, proxyPart, bodyOf, macPart, replyLength, replyMac, replyOf}
+use Rattle.reply.specs.Reply.{asCame, ifFound, statePart, causePart, proxiesIn, proxyPart, bodyOf, maced, replyLength, replyMac, replyOf}
 use Rattle.reply.proofs.Lengths.{length-replyMac}
-use Rattle.frames.proofs.Packets.{valued}
-use Rattle.replies.proofs.Back.{maced, reply-area}
+use Rattle.replies.proofs.Back.{reply-area}
 use Rattle.replies.proofs.Plain.{Plain, plain-nil, plain-both, plain-bytes}
 use Rattle.replies.proofs.Trailing.{trailing-tiled}
 
@@ -70,5 +69,4 @@ body-plain p c =
     plain-both (statePart s ++ causePart c) (proxyPart s) (plain-both (statePart s) (causePart c) (state-plain s) (cause-plain c)) (all-plain s)
 
 pub reply-tiled : (secret p : List ℕ) (c : Cause) → replyLength p c ≤ 4096 → tiled (areaOf (replyOf secret p c)) ≡ true
-unfolding macPart valued
 reply-tiled secret p c h = ap tiled (reply-area secret p c h) ∙ trailing-tiled (bodyOf p c) (replyMac secret p c) (body-plain p c) (length-replyMac secret p c) (maced p)

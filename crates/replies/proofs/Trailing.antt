@@ -9,7 +9,7 @@ use Rattle.attributes.specs.declared.Attribute.{Attribute}
 use Rattle.attributes.specs.Attributes.{attributes, valueOf, tiled, firstOf, countOf, kindIs, behind, bytesOf}
 use Rattle.attributes.proofs.Areas.{tiled-both, attributes-append, nil-tiled, nil-attributes, bytes-tiled, bytes-attributes, bytes-value, value-behind, lone}
 use Rattle.attributes.proofs.Searches.{any-none, count-append, first-behind}
-use Rattle.frames.proofs.Packets.{valued}
+use Rattle.frames.specs.Packets.{macValued}
 use Rattle.replies.proofs.Plain.{Plain}
 
 -- the attribute itself, and where it is present the list of it
@@ -21,31 +21,31 @@ trailer true body mac = trailing body mac ∷ []
 trailer false body mac = []
 
 module _ (body mac : List ℕ) (plain : Plain body) (long : length mac ≡ 16) where
-  as-bytes : valued true mac ≡ bytesOf 80 mac
-  unfolding valued
+  as-bytes : macValued true mac ≡ bytesOf 80 mac
+  unfolding macValued
   as-bytes = let e : length mac + 2 ≡ 18 = omega arith in rw e
 
-  pub trailing-attributes : (present : Bool) → attributes (body ++ valued present mac) ≡ attributes body ++ trailer present body mac
-  unfolding valued
-  trailing-attributes true = rw (attributes-append body (valued true mac) (plain .tiles), as-bytes, bytes-attributes 80 mac)
+  pub trailing-attributes : (present : Bool) → attributes (body ++ macValued present mac) ≡ attributes body ++ trailer present body mac
+  unfolding macValued
+  trailing-attributes true = rw (attributes-append body (macValued true mac) (plain .tiles), as-bytes, bytes-attributes 80 mac)
   trailing-attributes false = rw (attributes-append body [] (plain .tiles), nil-attributes)
 
-  pub trailing-tiled : (present : Bool) → tiled (body ++ valued present mac) ≡ true
-  unfolding valued
-  trailing-tiled true = tiled-both body (valued true mac) (plain .tiles) (rw as-bytes (bytes-tiled 80 mac))
+  pub trailing-tiled : (present : Bool) → tiled (body ++ macValued present mac) ≡ true
+  unfolding macValued
+  trailing-tiled true = tiled-both body (macValued true mac) (plain .tiles) (rw as-bytes (bytes-tiled 80 mac))
   trailing-tiled false = tiled-both body [] (plain .tiles) nil-tiled
 
-  pub trailing-first : (present : Bool) → firstOf (kindIs 80) (attributes (body ++ valued present mac)) ≡ firstOf (kindIs 80) (trailer present body mac)
+  pub trailing-first : (present : Bool) → firstOf (kindIs 80) (attributes (body ++ macValued present mac)) ≡ firstOf (kindIs 80) (trailer present body mac)
   trailing-first present = rw (trailing-attributes present) (first-behind (kindIs 80) (attributes body) (trailer present body mac) (plain .none))
 
   few : (present : Bool) → countOf (kindIs 80) (trailer present body mac) ≤ 1
   few true = omega arith
   few false = omega arith
 
-  pub trailing-once : (present : Bool) → countOf (kindIs 80) (attributes (body ++ valued present mac)) ≤ 1
+  pub trailing-once : (present : Bool) → countOf (kindIs 80) (attributes (body ++ macValued present mac)) ≤ 1
   trailing-once present =
       rw (trailing-attributes present, count-append (kindIs 80) (attributes body) (trailer present body mac), any-none (kindIs 80) (attributes body) (plain .none))
       (omega (arith, few present))
 
-  pub trailing-value : valueOf (body ++ valued true mac) (trailing body mac) ≡ mac
+  pub trailing-value : valueOf (body ++ macValued true mac) (trailing body mac) ≡ mac
   trailing-value = rw as-bytes (value-behind body (bytesOf 80 mac) (lone 80 mac) ∙ bytes-value 80 mac)

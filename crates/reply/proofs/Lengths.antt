@@ -7,14 +7,11 @@ use native.Mathlib.Omega.{arith}
 use lib.ListN.{length}
 use Rattle.octets.proofs.Numbers.{length-beBytes}
 use Rattle.octets.proofs.Part.{length-part}
-use Rattle.attributes.specs.Attributes.{attributes, any, kindIs}
-use Rattle.signing.specs.Signing.{zeros}
-use Rattle.signing.proofs.Messages.{length-authenticator, length-messageAuthenticator}
 use Rattle.causes.specs.declared.Cause.{Cause}
-use Rattle.packets.specs.Packet.{authOf, areaOf}
+use Rattle.packets.specs.Packet.{authOf}
 use Rattle.packets.specs.Discards.{Sized}
-use Rattle.reply.specs.Reply.{bodyOf, macPart, replyLength, headOf, replyWith, replyMac, replyAuth, replyOf}
-use Rattle.frames.proofs.Packets.{valued, packet, packetLength, length-packet}
+use Rattle.reply.specs.Reply.{bodyOf, maced, replyLength, headOf, replyMac, replyAuth, replyOf}
+use Rattle.frames.proofs.Packets.{length-packetMac, length-packetAuth, length-signed, packet-low}
 
 pub length-auth : (p : List ℕ) (n : ℕ) → Sized p n → length (authOf p) ≡ 16
 length-auth p n z = length-part 4 16 p (omega (arith, z .low, z .given))
@@ -23,23 +20,19 @@ pub length-head : (p : List ℕ) (c : Cause) → length (headOf p c) ≡ 4
 unfolding headOf
 length-head p c = ap (λ (k : ℕ). suc (suc k)) (length-beBytes 2 (replyLength p c))
 
-pub length-replyWith : (p : List ℕ) (c : Cause) (auth mac : List ℕ) → length auth ≡ 16 → length mac ≡ 16 → length (replyWith p c auth mac) ≡ replyLength p c
-unfolding replyWith replyLength macPart packet packetLength valued
-length-replyWith p c auth mac e g = length-packet (headOf p c) (bodyOf p c) (any (kindIs 80) (attributes (areaOf p))) auth mac (length-head p c) e g
-
 module _ (secret p : List ℕ) (c : Cause) where
   pub length-replyMac : length (replyMac secret p c) ≡ 16
   unfolding replyMac
-  length-replyMac = length-messageAuthenticator _ _ _ _ _
+  length-replyMac = length-packetMac secret (authOf p) (headOf p c) (bodyOf p c) (maced p)
 
   pub length-replyAuth : length (replyAuth secret p c) ≡ 16
   unfolding replyAuth
-  length-replyAuth = length-authenticator _ _ _ _
+  length-replyAuth = length-packetAuth secret (authOf p) (headOf p c) (bodyOf p c) (maced p)
 
   pub length-replyOf : length (replyOf secret p c) ≡ replyLength p c
-  unfolding replyOf
-  length-replyOf = length-replyWith p c (replyAuth secret p c) (replyMac secret p c) length-replyAuth length-replyMac
+  unfolding replyOf replyLength
+  length-replyOf = length-signed secret (authOf p) (headOf p c) (bodyOf p c) (maced p) (length-head p c)
 
 pub twenty : (p : List ℕ) (c : Cause) → 20 ≤ replyLength p c
 unfolding replyLength
-twenty p c = omega arith
+twenty p c = packet-low (bodyOf p c) (maced p)

@@ -1,21 +1,20 @@
 -- The reply to a request (document 01, "NAK causes", last paragraph): identifier of the request; its first State; on NAK Error-Cause; every Proxy-State in order; type 80 if the request had one.
 -- A reply is told by its cause: NoCause is an ACK, any other a NAK.
 -- Assumes nothing.
-use mathlib.Core.Bool.{cond}
+use mathlib.Core.Bool.{Bool, cond}
 use mathlib.Core.List.{List, [], _∷_, _++_}
-use Prim.Native.Nat.{ℕ, _+_, _-_}
-use lib.ListN.{length}
+use Prim.Native.Nat.{ℕ, _+_}
 use Rattle.octets.specs.Numbers.{beBytes}
 use Rattle.octets.specs.Runs.{part}
 use Rattle.attributes.specs.declared.Attribute.{Attribute}
 use Rattle.attributes.specs.declared.Search.{Search}
 use Rattle.attributes.specs.declared.Search.the-variants.{At, Missing}
 use Rattle.attributes.specs.Attributes.{attributes, any, firstOf, kindIs}
-use Rattle.signing.specs.Signing.{zeros, authenticator, messageAuthenticator}
 use Rattle.causes.specs.declared.Cause.{Cause}
 use Rattle.causes.specs.Causes.{errorCause}
 use Rattle.packets.specs.Packet.{codeOf, identifierOf, authOf, areaOf}
 use Rattle.rules.specs.Verdict.{applies}
+use Rattle.frames.specs.Packets.{packetLength, packetMac, packetAuth, signedPacket}
 
 -- an attribute of the area s, as it came
 abbrev pub asCame : List ℕ → Attribute → List ℕ
@@ -46,29 +45,23 @@ proxyPart s = proxiesIn s (attributes s)
 unfoldable pub bodyOf : List ℕ → Cause → List ℕ
 bodyOf p c = statePart (areaOf p) ++ causePart c ++ proxyPart (areaOf p)
 
--- type 80, if the request had one
-unfoldable pub macPart : List ℕ → List ℕ → List ℕ
-macPart p value = cond (any (kindIs 80) (attributes (areaOf p))) (80 ∷ 18 ∷ value) []
+-- the request has a type 80
+abbrev pub maced : List ℕ → Bool
+maced p = any (kindIs 80) (attributes (areaOf p))
 
 unfoldable pub replyLength : List ℕ → Cause → ℕ
-replyLength p c = 20 + length (bodyOf p c) + length (macPart p zeros)
+replyLength p c = packetLength (bodyOf p c) (maced p)
 
 -- the request's code plus 1 for an ACK, plus 2 for a NAK; its identifier; Length
 unfoldable pub headOf : List ℕ → Cause → List ℕ
 headOf p c = (codeOf p + cond (applies c) 2 1) ∷ identifierOf p ∷ beBytes 2 (replyLength p c)
 
--- the reply with these values for authenticator and Message-Authenticator
-unfoldable pub replyWith : List ℕ → Cause → List ℕ → List ℕ → List ℕ
-replyWith p c auth mac = headOf p c ++ auth ++ bodyOf p c ++ macPart p mac
-
--- the Message-Authenticator, worked out before the authenticator, over the request's authenticator; its value ends the packet
+-- signed over the request's authenticator, with a type 80 if the request had one: its Message-Authenticator, the response authenticator, the reply
 unfoldable pub replyMac : List ℕ → List ℕ → Cause → List ℕ
-replyMac secret p c = messageAuthenticator (authOf p) (replyWith p c (authOf p) zeros) (replyLength p c) (replyLength p c - 16) secret
+replyMac secret p c = packetMac secret (authOf p) (headOf p c) (bodyOf p c) (maced p)
 
--- the response authenticator
 unfoldable pub replyAuth : List ℕ → List ℕ → Cause → List ℕ
-replyAuth secret p c = authenticator (authOf p) (replyWith p c (authOf p) (replyMac secret p c)) (replyLength p c) secret
+replyAuth secret p c = packetAuth secret (authOf p) (headOf p c) (bodyOf p c) (maced p)
 
--- the reply
 unfoldable pub replyOf : List ℕ → List ℕ → Cause → List ℕ
-replyOf secret p c = replyWith p c (replyAuth secret p c) (replyMac secret p c)
+replyOf secret p c = signedPacket secret (authOf p) (headOf p c) (bodyOf p c) (maced p)

@@ -17,9 +17,9 @@ use Rattle.signing.specs.Signing.{zeros, authenticator}
 use Rattle.signing.proofs.Messages.{length-zeros}
 use Rattle.frames.specs.Rooms.{macRoom, withMac}
 use Rattle.frames.proofs.Writes.{write-before}
-use Rattle.frames.proofs.Packets.{valued, packet, packetLength, packetMac, packetAuth, signedPacket}
+use Rattle.frames.specs.Packets.{macValued, packet, packetLength}
 use Rattle.frames.proofs.Sealing.{sealed}
-use Rattle.requests.specs.Writer.{draft, badGiven, macAdded, requestLength, requestWith, requestMac, requestAuth, requestOf}
+use Rattle.requests.specs.Writer.{draft, badGiven, requestLength, requestHead, requestOf}
 
 -- R13 does not apply: the attributes have room, type 80 with them
 long-case : (n : ℕ) (add x y z : Bool) → ltb (cond add 4058 4076) n ≡ z → (x || (y || z)) ≡ false → n + length (cond add (80 ∷ 18 ∷ zeros) []) ≤ 4076
@@ -52,7 +52,7 @@ module _ (g : List ℕ) (code identifier : ℕ) (add : Bool) (good : badGiven (d
     end-fits m k₁ k₂ k₃ room e₁ e₂ e₃ = omega (arith, end-high)
 
     pub end-is : e ≡ requestLength (draft code identifier g add)
-    unfolding requestLength macRoom macAdded
+    unfolding requestLength macRoom packetLength macValued
     end-is = he
 
     -- l is the buffer before the calls
@@ -60,14 +60,14 @@ module _ (g : List ℕ) (code identifier : ℕ) (add : Bool) (good : badGiven (d
         → t₃ ≡ write t₂ 0 ((code ∷ identifier ∷ beBytes 2 e) ++ replicate 16 0)
         → t₄ ≡ write (withMac add zeros t₃ e secret) 4 (authenticator zeros (withMac add zeros t₃ e secret) e secret)
         → t₄ ≡ write l 0 (requestOf secret (draft code identifier g add))
-    unfolding zeros macRoom macAdded requestLength requestWith requestMac requestAuth requestOf packet packetLength valued packetMac packetAuth signedPacket
+    unfolding zeros macRoom requestLength requestHead requestOf packet packetLength macValued
     requested secret l t₁ t₂ t₃ t₄ h e₁ e₂ e₃ e₄ =
         let head = code ∷ identifier ∷ beBytes 2 (requestLength (draft code identifier g add)) in
         let four : length head ≡ 4 = omega (arith, length-beBytes 2 (requestLength (draft code identifier g add))) in
-        let w₂ : t₂ ≡ write l 20 (g ++ valued add zeros) = write-then t₁ t₂ l 20 (20 + length g) g (valued add zeros) e₁ e₂ refl in
+        let w₂ : t₂ ≡ write l 20 (g ++ macValued add zeros) = write-then t₁ t₂ l 20 (20 + length g) g (macValued add zeros) e₁ e₂ refl in
         let front : 20 ≡ 0 + length (head ++ zeros) = omega (arith, length-append head zeros, length-zeros) in
         let w₃ : t₃ ≡ write l 0 (packet head g add zeros zeros) =
-        write-before t₂ t₃ l 0 20 (head ++ zeros) (g ++ valued add zeros) w₂ (e₃ ∙ rw end-is) front ∙ rw (← (append-assoc (head ++ zeros))) in
+        write-before t₂ t₃ l 0 20 (head ++ zeros) (g ++ macValued add zeros) w₂ (e₃ ∙ rw end-is) front ∙ rw (← (append-assoc (head ++ zeros))) in
         let short = given-short in
         sealed secret zeros head g l add four length-zeros (omega arith) add t₃ (withMac add zeros t₃ e secret) t₄ refl w₃ (rw he) (e₄ ∙ rw he)
 

@@ -1,14 +1,15 @@
 -- The request writer (document 01: "a request writer", R2, R4, R12, R13).
 -- Assumes nothing.
 use mathlib.Core.Bool.{Bool, cond, not, _||_}
-use mathlib.Core.List.{List, [], _∷_, _++_}
-use Prim.Native.Nat.{ℕ, _+_, _-_}
+use mathlib.Core.List.{List, _∷_}
+use Prim.Native.Nat.{ℕ}
 use lib.Dec.{eqb, ltb}
 use lib.ListN.{length}
 use Rattle.octets.specs.Numbers.{beBytes}
 use Rattle.octets.specs.Runs.{write}
 use Rattle.attributes.specs.Attributes.{attributes, tiled, any, kindIs}
-use Rattle.signing.specs.Signing.{zeros, authenticator, messageAuthenticator}
+use Rattle.signing.specs.Signing.{zeros}
+use Rattle.frames.specs.Packets.{packetLength, signedPacket}
 use Rattle.settings.specs.Settings.{badSecret}
 use Rattle.requests.specs.declared.Written as D
 use Rattle.requests.specs.declared.Written.the-variants.{Done, NotWritten}
@@ -36,28 +37,15 @@ writeRefusal secret out d =
     (cond (badGiven d) 13
     0)))
 
--- type 80 with this value, if it is to be added
-unfoldable pub macAdded : Draft → List ℕ → List ℕ
-macAdded d value = cond (d .add) (80 ∷ 18 ∷ value) []
-
 unfoldable pub requestLength : Draft → ℕ
-requestLength d = 20 + length (d .given) + length (macAdded d zeros)
+requestLength d = packetLength (d .given) (d .add)
 
--- the request with these values for authenticator and Message-Authenticator
-unfoldable pub requestWith : Draft → List ℕ → List ℕ → List ℕ
-requestWith d auth mac = (d .code ∷ d .identifier ∷ beBytes 2 (requestLength d)) ++ auth ++ d .given ++ macAdded d mac
+unfoldable pub requestHead : Draft → List ℕ
+requestHead d = d .code ∷ d .identifier ∷ beBytes 2 (requestLength d)
 
--- the Message-Authenticator, worked out before the authenticator; its value ends the packet
-unfoldable pub requestMac : List ℕ → Draft → List ℕ
-requestMac secret d = messageAuthenticator zeros (requestWith d zeros zeros) (requestLength d) (requestLength d - 16) secret
-
--- the request authenticator
-unfoldable pub requestAuth : List ℕ → Draft → List ℕ
-requestAuth secret d = authenticator zeros (requestWith d zeros (requestMac secret d)) (requestLength d) secret
-
--- the request
+-- signed over zeros, with a type 80 if it is to be added
 unfoldable pub requestOf : List ℕ → Draft → List ℕ
-requestOf secret d = requestWith d (requestAuth secret d) (requestMac secret d)
+requestOf secret d = signedPacket secret zeros (requestHead d) (d .given) (d .add)
 
 -- refused, or its length; the output's first bytes hold it, and those after stay
 unfoldable pub writeAnswer : List ℕ → List ℕ → Draft → D.Written

@@ -17,7 +17,7 @@ use Rattle.packets.specs.Packet.{lengthOf}
 use Rattle.settings.specs.Settings.{Settings}
 use Rattle.macs.specs.Discards.{wrongMac, badMac}
 use Rattle.rules.specs.Verdict.{freshVerdict, stampVerdict, checkVerdict}
-use Rattle.reply.specs.Reply.{bodyOf, macPart, replyLength, headOf, replyWith, replyMac, replyAuth, replyOf}
+use Rattle.reply.specs.Reply.{bodyOf, replyLength, headOf, replyOf}
 use Rattle.answers.specs.declared.Answer as D
 use Rattle.answers.specs.declared.Answer.the-variants as A
 use Rattle.answers.specs.Replies.{replyAs}
@@ -51,29 +51,17 @@ module _ (p q : List ℕ) (s : SamePacket p q) where
   unfolding bodyOf
   body-same c = rw (s .area)
 
-  seal-same : (v : List ℕ) → macPart q v ≡ macPart p v
-  unfolding macPart
-  seal-same v = rw (s .area)
-
   pub length-same : (c : Cause) → replyLength q c ≡ replyLength p c
   unfolding replyLength
-  length-same c = rw (body-same c, seal-same zeros)
+  length-same c = rw (body-same c, s .area)
 
-  with-same : (c : Cause) (auth mac : List ℕ) → replyWith q c auth mac ≡ replyWith p c auth mac
-  unfolding replyWith headOf
-  with-same c auth mac = rw (body-same c, seal-same mac, length-same c, s .code, s .identifier)
-
-  sum-same : (secret : List ℕ) (c : Cause) → replyMac secret q c ≡ replyMac secret p c
-  unfolding replyMac
-  sum-same secret c = rw (with-same c, length-same c, s .auth)
-
-  auth-same : (secret : List ℕ) (c : Cause) → replyAuth secret q c ≡ replyAuth secret p c
-  unfolding replyAuth
-  auth-same secret c = rw (with-same c, sum-same secret c, length-same c, s .auth)
+  head-same : (c : Cause) → headOf q c ≡ headOf p c
+  unfolding headOf
+  head-same c = rw (length-same c, s .code, s .identifier)
 
   reply-same : (secret : List ℕ) (c : Cause) → replyOf secret q c ≡ replyOf secret p c
   unfolding replyOf
-  reply-same secret c = rw (with-same c, sum-same secret c, auth-same secret c)
+  reply-same secret c = rw (head-same c, body-same c, s .auth, s .area)
 
   pub buffer-same : (secret b : List ℕ) (a : D.Answer) → replyAs secret q b a ≡ replyAs secret p b a
   buffer-same secret b (A.Refused n) = refl
