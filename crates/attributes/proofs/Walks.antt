@@ -9,13 +9,10 @@ use native.Mathlib.Omega.{arith}
 use lib.ListN.{length}
 use mir.Syntax.{w64}
 use mir.Val.{Fits}
-use borrow.Author.Tests.{eq-eqb, ne-eqb}
 use Rattle.attributes.specs.declared.Attribute.{Attribute}
-use Rattle.attributes.specs.declared.Search.{Search}
-use Rattle.attributes.specs.declared.Search.the-variants.{At, Missing}
 use Rattle.attributes.specs.declared.Step.{Step}
 use Rattle.attributes.specs.declared.Step.the-variants.{Found, End, Bad}
-use Rattle.attributes.specs.Attributes.{stepAt, walk, walkFrom, onStep, attributesFrom, tiledFrom, firstOf, kindIs}
+use Rattle.attributes.specs.Attributes.{stepAt, walk, walkFrom, onStep, attributesFrom, tiledFrom}
 use Rattle.attributes.proofs.Steps.{step-end, step-inv, found-placed}
 
 module _ {ℓ} {A : Type ℓ} (e b : A) (f : Attribute → A → A) (s : List ℕ) where
@@ -97,17 +94,3 @@ module _ (s : List ℕ) (z : Bool) (at : ℕ) (x : Step) (i : z ≡ tiledFrom s 
 
   pub tiles-bad : x ≡ Bad → false ≡ z
   tiles-bad r = sym (i ∙ walk-bad _ _ _ s at (sym q ∙ r))
-
--- the first attribute of type k
-module _ (k : ℕ) (s : List ℕ) (z : Search) (at : ℕ) (x : Step) (i : z ≡ firstOf (kindIs k) (attributesFrom s at)) (q : x ≡ stepAt s at) where
-  pub first-here : (next : ℕ) (a : Attribute) → x ≡ Found a next → a .kind ≡ k → At a ≡ z
-  first-here next a r e = sym (i ∙ ap (firstOf (kindIs k)) (left-found s at x q next a r) ∙ rw (eq-eqb _ _ e))
-
-  pub first-on : (next : ℕ) (a : Attribute) → x ≡ Found a next → (a .kind ≡ k → ⊥) → z ≡ firstOf (kindIs k) (attributesFrom s next)
-  first-on next a r n = i ∙ ap (firstOf (kindIs k)) (left-found s at x q next a r) ∙ rw (ne-eqb _ _ n)
-
-  pub first-end : x ≡ End → Missing ≡ z
-  first-end r = sym (i ∙ ap (firstOf (kindIs k)) (left-end s at x q r))
-
-  pub first-bad : x ≡ Bad → Missing ≡ z
-  first-bad r = sym (i ∙ ap (firstOf (kindIs k)) (left-bad s at x q r))

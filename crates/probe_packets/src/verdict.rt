@@ -1,9 +1,53 @@
 // The verdict on a request before any session is looked at, in numbers.
 ghost use mathlib.Core.Path.{_≡_};
+ghost use mathlib.Core.Bool.{true};
 ghost use Prim.Native.Nat.{_+_};
+ghost use Rattle.packets.specs.Discards.{Sized};
 ghost use Rattle.settings.specs.Settings.{settings};
+ghost use Rattle.rules.specs.Discards.{signedBy};
+ghost use Rattle.rules.specs.Verdict.{checkVerdict, verdictOf};
 ghost use Rattle.probe_packets.specs.Told.{verdict, numberOf, skewOf, stampedOf};
 use rules::Verdict;
+
+// D5, D6 and causes 1 to 6 of a request that is rightly signed.
+fn check_signed(p: &[u8], n: usize, secret: &[u8], address: u32, name: &[u8], clock: u32) -> Verdict
+    requires { ⌜ Sized (now p) n ⌝ }
+    ensures { λ r. ⌜ r ≡ checkVerdict (settings (now (secret .entry)) address (now (name .entry))) true (now (p .entry)) clock ⌝ }
+{
+    let mut count = [0u8; 256];
+    let mut ends = [0u16; 256];
+    let mut sizes = [0u8; 256];
+    let s = runs::slice(p, 20, n - 20);
+    let f = survey::survey(s, p[0], &mut count, &mut ends, &mut sizes);
+    rules::check(
+        p,
+        n,
+        true,
+        secret,
+        address,
+        name,
+        clock,
+        f,
+        &count,
+        &ends,
+        &sizes,
+    )
+}
+
+// D1 to D6 and causes 1 to 6 of a packet, as `handler::handle` asks for them before any session.
+fn judge(p: &[u8], secret: &[u8], address: u32, name: &[u8], clock: u32) -> Verdict
+    ensures { λ r. ⌜ r ≡ verdictOf (settings (now (secret .entry)) address (now (name .entry))) (signedBy (now (secret .entry)) (now (p .entry))) (now (p .entry)) clock ⌝ }
+{
+    let d = packets::form(p);
+    if d != 0 {
+        return Verdict::Discarded(d);
+    }
+    let n = packets::length_of(p);
+    if signing::request_signed(p, n, secret) {
+        return check_signed(p, n, secret, address, name, clock);
+    }
+    Verdict::Discarded(4)
+}
 
 fn discard_number(d: u8) -> u32
     ensures { λ r. ⌜ r ≡ 100 + d ⌝ }
@@ -26,7 +70,7 @@ pub extern "C" fn probe_verdict(
     ensures { λ r. ⌜ now (skew .exit) ≡ skewOf (verdict (settings (now (secret .entry)) address (now (name .entry))) (now (p .entry)) clock) ⌝ }
     ensures { λ r. ⌜ now (stamped .exit) ≡ stampedOf (verdict (settings (now (secret .entry)) address (now (name .entry))) (now (p .entry)) clock) ⌝ }
 {
-    let v = rules::judge(p, secret, address, name, clock);
+    let v = judge(p, secret, address, name, clock);
     match v {
         Verdict::Discarded(d) => {
             *skew = 0;

@@ -1,12 +1,12 @@
--- `rules::check_signed` meets its contract: one pass over the attributes, and the rest goes by what it tells.
+-- `probe_packets::verdict::check_signed` meets its contract: one pass over the attributes, and the rest goes by what it tells.
 -- Assumes nothing.
 use mathlib.Core.Path.{refl}
 use borrow.Author.Needs.{needs}
 use Rattle.packets.proofs.Areas.{area-of, area-short}
 use Rattle.rules.proofs.Verdicts.{surveyed-of}
 use Rattle.survey.specs.Survey.{zeros}
-use Rattle.rules.proofs.check_signed.Statement.{statement}
-use Rattle.rules.proofs.check_signed.Tie as tie
+use Rattle.probe_packets.proofs.verdict.check_signed.Statement.{statement}
+use Rattle.probe_packets.proofs.verdict.check_signed.Tie as tie
 
 survey-requires : tie.Need-survey-requires
 unfolding zeros

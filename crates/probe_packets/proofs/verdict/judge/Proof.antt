@@ -1,9 +1,9 @@
--- `rules::judge` meets its contract: D1 to D3, then the rest on what they leave.
+-- `probe_packets::verdict::judge` meets its contract: D1 to D3, then the rest on what they leave.
 -- Assumes nothing.
 use borrow.Author.Needs.{needs}
 use Rattle.rules.proofs.Verdicts.{judge-form, judge-signed, judge-unsigned}
-use Rattle.rules.proofs.judge.Statement.{statement}
-use Rattle.rules.proofs.judge.Tie as tie
+use Rattle.probe_packets.proofs.verdict.judge.Statement.{statement}
+use Rattle.probe_packets.proofs.verdict.judge.Tie as tie
 
 returns : tie.Need-returns
 returns c = search (needs, judge-form)
