@@ -49,7 +49,3 @@ module _ (n : ℕ) (p p′ : List ℕ) (alike : Alike n p p′) (secret : List �
   pub same-hashed : (q : State) (k : ℕ) → hashed q k p n secret ≡ hashed q k p′ n secret
   unfolding hashed
   same-hashed q k = rw (same-requestBlock k)
-
-  pub same-hashedTo : (k : ℕ) → hashedTo k p n secret ≡ hashedTo k p′ n secret
-  unfolding hashedTo
-  same-hashedTo k = rw (same-signed n p p′ alike zeros secret)

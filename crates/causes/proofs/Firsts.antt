@@ -2,27 +2,14 @@
 -- Assumes nothing.
 use mathlib.Core.Path.{_≡_, refl, subst}
 use mathlib.Core.Bool.{Bool, true, false, cond}
-use mathlib.Core.Logic.{_↔_, _⊎_, inl, inr}
+use mathlib.Core.Logic.{_↔_}
 use mathlib.Core.List.{List}
-use Prim.Native.Nat.{ℕ, _≤_}
-use lib.Dec.{lit≤}
+use Prim.Native.Nat.{ℕ}
 use Rattle.attributes.specs.Attributes.{attributes, any, kindIs}
 use Rattle.survey.specs.Types.{unsupportedIn}
 use Rattle.causes.specs.declared.Cause as D
 use Rattle.causes.specs.declared.Cause.the-variants as C
-use Rattle.causes.specs.Causes.{errorCause, mismatched, missing, oversized, invalid, causeOf}
-
--- a cause's number is 0 or from 401 to 506
-pub numbers : (c : D.Cause) → (errorCause c ≡ 0) ⊎ ((401 ≤ errorCause c) × (errorCause c ≤ 506))
-unfolding errorCause
-numbers C.UnsupportedAttribute = inr (lit≤ tt, lit≤ tt)
-numbers C.MissingAttribute = inr (lit≤ tt, lit≤ tt)
-numbers C.IdentificationMismatch = inr (lit≤ tt, lit≤ tt)
-numbers C.InvalidRequest = inr (lit≤ tt, lit≤ tt)
-numbers C.UnsupportedService = inr (lit≤ tt, lit≤ tt)
-numbers C.SessionNotFound = inr (lit≤ tt, lit≤ tt)
-numbers C.ResourcesUnavailable = inr (lit≤ tt, lit≤ tt)
-numbers C.NoCause = inl refl
+use Rattle.causes.specs.Causes.{mismatched, missing, oversized, invalid, causeOf}
 
 -- the tests that a cause stands for: a 401, b 405, c 404, d 403, e 402, f 506
 abbrev pub applies : D.Cause → Bool → Bool → Bool → Bool → Bool → Bool → Type 0

@@ -6,19 +6,17 @@ use mathlib.Core.List.{List, [], _∷_, List·Memᴰ, List·Memᴰ·not-nil, Lis
 use mathlib.Core.Logic.{_⊎_, inl, inr}
 use Prim.Native.Nat.{ℕ, _≤_}
 use lib.Dec.{eqb}
-use borrow.Author.Tests.{eq-eqb, eqb-true, eqb-false, ltb-false}
-use Rattle.octets.specs.Numbers.{beBytes}
-use Rattle.octets.proofs.Equality.{equal-true}
+use borrow.Author.Tests.{eq-eqb, eqb-true, ltb-false}
 use Rattle.attributes.specs.declared.Attribute.{Attribute}
 use Rattle.attributes.specs.declared.Search.{Search}
 use Rattle.attributes.specs.declared.Search.the-variants.{At}
-use Rattle.attributes.specs.Attributes.{attributes, valueOf, any, found, firstOf, countOf, kindIs}
+use Rattle.attributes.specs.Attributes.{attributes, any, found, firstOf, countOf, kindIs}
 use Rattle.attributes.proofs.Stands.{first-member}
 use Rattle.attributes.proofs.Searches.{first-passes}
-use Rattle.survey.specs.Types.{member, supported, unsupportedIn, sixTypes, filledTypes, misfitOf, misfitting, among, criteria, changes, firstRepeated, none}
+use Rattle.survey.specs.Types.{member, sixTypes, filledTypes, misfitOf, misfitting, firstRepeated, none}
 use Rattle.survey.proofs.Repeats.{at-most-once}
 use Rattle.causes.specs.declared.Cause.the-variants as C
-use Rattle.causes.specs.Causes.{differing, mismatched, missing, oversized, invalid, causeOf}
+use Rattle.causes.specs.Causes.{oversized, invalid, causeOf}
 use Rattle.causes.proofs.Firsts.{exactly}
 
 -- ---- where none passes a test, each fails it
@@ -62,10 +60,6 @@ module _ (s : List ℕ) (misfit : any misfitting (attributes s) ≡ false) (a : 
   unfolding misfitOf
   six-of h = eqb-true _ _ (not-true _ (and-first _ _ h (or-left _ (member (a .kind) filledTypes && eqb (a .size) 2) (fails misfitting (attributes s) misfit a m))))
 
-  filled-of : member (a .kind) filledTypes ≡ true → a .size ≡ 2 → ⊥
-  unfolding misfitOf
-  filled-of h = eqb-false _ _ (and-first _ _ h (or-right (member (a .kind) sixTypes && not (eqb (a .size) 6)) _ (fails misfitting (attributes s) misfit a m)))
-
 -- the first of a type that must have length 6 has it
 pub first-six : (s : List ℕ) (k : ℕ) (a : Attribute) → any misfitting (attributes s) ≡ false → firstOf (kindIs k) (attributes s) ≡ At a → member k sixTypes ≡ true → a .size ≡ 6
 first-six s k a misfit e h =
@@ -88,47 +82,13 @@ module _ (code address : ℕ) (name s : List ℕ) (q : causeOf code address name
   once k ne = at-most-once (attributes s) repeated k ne
 
   module _ (a : Attribute) (m : List·Memᴰ a (attributes s)) where
-    pub supports : supported code (a .kind) ≡ true
-    supports = not-true _ (fails (unsupportedIn code) (attributes s) (exactly C.NoCause code address name s .0 q .0) a m)
-
-    pub six : member (a .kind) sixTypes ≡ true → a .size ≡ 6
-    six h = six-of s misfit a m h
-
-    pub filled : member (a .kind) filledTypes ≡ true → a .size ≡ 2 → ⊥
-    filled h = filled-of s misfit a m h
-
-    owned : (k : ℕ) (own : List ℕ) → differing s k own a ≡ false → a .kind ≡ k → valueOf s a ≡ own
-    owned k own h e = equal-true _ _ (not-true _ (and-first _ _ (eq-eqb _ _ e) h))
-
-    pub own-address : a .kind ≡ 4 → valueOf s a ≡ beBytes 4 address
-    own-address e = owned 4 (beBytes 4 address) (or-left _ (differing s 32 name a) (fails (mismatched address name s) (attributes s) (exactly C.NoCause code address name s .0 q .3) a m)) e
-
-    pub own-name : a .kind ≡ 32 → valueOf s a ≡ name
-    own-name e =
-        owned 32 name (or-right (differing s 4 (beBytes 4 address) a) _ (fails (mismatched address name s) (attributes s) (exactly C.NoCause code address name s .0 q .3) a m)) e
-
     pub filter : a .kind ≡ 11 → a .size ≤ 34
     filter e = ltb-false _ _ (and-first _ _ (eq-eqb _ _ e) (fails oversized (attributes s) (exactly C.NoCause code address name s .0 q .5) a m))
-
-  -- one names a session, and in a CoA-Request one changes one
-  pub criterion : any (among criteria) (attributes s) ≡ true
-  unfolding missing
-  criterion = not-true _ (or-left _ (eqb code 43 && not (any (among changes) (attributes s))) (exactly C.NoCause code address name s .0 q .4))
-
-  pub change : code ≡ 43 → any (among changes) (attributes s) ≡ true
-  unfolding missing
-  change e = not-true _ (and-first _ _ (eq-eqb _ _ e) (or-right (not (any (among criteria) (attributes s))) _ (exactly C.NoCause code address name s .0 q .4)))
 
   -- the same of the first of a type
   module _ (k : ℕ) (a : Attribute) (e : firstOf (kindIs k) (attributes s) ≡ At a) where
     kind : a .kind ≡ k
     kind = eqb-true _ _ (first-passes (kindIs k) (attributes s) a e)
-
-    pub six-first : member k sixTypes ≡ true → a .size ≡ 6
-    six-first h = first-six s k a misfit e h
-
-    pub filled-first : member k filledTypes ≡ true → a .size ≡ 2 → ⊥
-    filled-first h = filled a (first-member (kindIs k) (attributes s) a e) (ap (λ (j : ℕ). member j filledTypes) kind ∙ h)
 
     pub filter-first : k ≡ 11 → a .size ≤ 34
     filter-first h = filter a (first-member (kindIs k) (attributes s) a e) (kind ∙ h)

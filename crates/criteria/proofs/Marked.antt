@@ -9,11 +9,6 @@ use native.Mathlib.Nat.{eq-or-lt-of-le, le-of-suc-le-suc}
 use native.Mathlib.Omega.{arith}
 use lib.ListN.{length, getD, set, replicate, length-set}
 use lib.Seq.{getD-set-same, getD-set-other}
-use Rattle.octets.proofs.Equality.{and-both}
-use Rattle.slots.specs.Slot.{slotCount, live}
-use Rattle.slots.proofs.Count.{counted}
-use Rattle.criteria.specs.declared.Criterion.{Criterion}
-use Rattle.criteria.specs.Matching.{matches, matchesAt}
 use Rattle.criteria.specs.Marks.{noMarks, marksAfter, countTo}
 
 module _ (f : ℕ → Bool) where
@@ -70,19 +65,6 @@ module _ (f : ℕ → Bool) where
   count-none zero h = refl
   count-none (suc k) h = rw (h k (omega arith)) (count-none k (λ i l. h i (omega arith)))
 
-  some-by : (b : Bool) (n : ℕ) → 1 ≤ n → 1 ≤ cond b (n + 1) n
-  some-by true n h = omega arith
-  some-by false n h = h
-
-  pub count-some : (k i : ℕ) → i < k → f i ≡ true → 1 ≤ countTo f k
-  unfolding countTo
-  count-some zero i h e = absurd (omega arith)
-  count-some (suc k) i h e =
-      ⊎-elim
-      (λ (q : i ≡ k). rw (← q, e) (omega arith))
-      (λ (l : i < k). some-by (f k) (countTo f k) (count-some k i l e))
-      (eq-or-lt-of-le (le-of-suc-le-suc h))
-
 -- what f and g name below k is the same
 pub count-same : (f g : ℕ → Bool) (k : ℕ) → ((i : ℕ) → i < k → f i ≡ g i) → countTo f k ≡ countTo g k
 unfolding countTo
@@ -93,13 +75,3 @@ pub marks-same : (f g : ℕ → Bool) (k : ℕ) → ((i : ℕ) → i < k → f i
 unfolding marksAfter
 marks-same f g zero h = refl
 marks-same f g (suc k) h = rw (h k (omega arith), marks-same f g k (λ i l. h i (omega arith)))
-
--- ---- the marks after all slots of a table
-
-pub match-live : (p : List ℕ) (cs : List Criterion) (s : List ℕ) → matches p cs s ≡ true → live s ≡ true
-unfolding matches
-match-live p cs s h = and-both _ _ h .0
-
-module _ (p : List ℕ) (cs : List Criterion) (t : List ℕ) where
-  pub mark-match : (i : ℕ) → i < slotCount t → getD (marksAfter (matchesAt p cs t) (slotCount t)) i 0 ≡ cond (matchesAt p cs t i) 1 0
-  mark-match i h = let c = counted t in mark-at (matchesAt p cs t) (slotCount t) i h (omega arith)

@@ -7,15 +7,13 @@ use mathlib.Core.List.{List}
 use Prim.Native.Nat.{ℕ, zero, suc, _+_, _-_, _<_}
 use native.Mathlib.Omega.{arith}
 use lib.Dec.{eqb, leb}
-use lib.ListN.{getD}
 use borrow.Author.Tests.{le-leb}
 use Rattle.octets.specs.Runs.{part}
 use Rattle.attributes.specs.declared.Attribute.{Attribute}
-use Rattle.attributes.specs.declared.Search.the-variants.{At}
-use Rattle.attributes.specs.Attributes.{attributes, valueOf, any, firstOf, countOf, kindIs}
+use Rattle.attributes.specs.Attributes.{attributes, valueOf, any, countOf, kindIs}
 use Rattle.attributes.proofs.Searches.{any-count}
 use Rattle.survey.specs.declared.Flags.{Flags}
-use Rattle.survey.specs.Survey.{Surveyed, seenAt, upToTwo, endOf, sizeOf}
+use Rattle.survey.specs.Survey.{Surveyed, seenAt, upToTwo}
 use Rattle.survey.specs.Turns.{keptValue}
 
 -- the code's place and length: e and n are the kept end and length, read
@@ -36,6 +34,3 @@ some (suc (suc n)) = sym (le-leb 1 (suc (suc n)) (omega arith))
 module _ (s : List ℕ) (code : ℕ) (f : Flags) (count ends sizes : List ℕ) (i : Surveyed s code f count ends sizes) (k : ℕ) (h : k < 256) (ne : k ≡ 33 → ⊥) where
   pub seen-any : seenAt count k ≡ any (kindIs k) (attributes s)
   seen-any = ap (λ (n : ℕ). not (eqb n 0)) (i .types k h ne .number) ∙ some (countOf (kindIs k) (attributes s)) ∙ sym (any-count (kindIs k) (attributes s))
-
-  pub value-first : (a : Attribute) → firstOf (kindIs k) (attributes s) ≡ At a → keptValue s (getD ends k 0) (getD sizes k 0) ≡ valueOf s a
-  value-first a e = rw (i .types k h ne .end ∙ ap endOf e, i .types k h ne .size ∙ ap sizeOf e) (kept-attribute s a)

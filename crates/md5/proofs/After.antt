@@ -6,7 +6,7 @@ use Prim.Native.Nat.{ℕ, zero, suc, _+_, _-_, _*_, _/_, _%_, _≤_, _<_}
 use native.Mathlib.Nat.{add-zero, add-suc}
 use native.Mathlib.Omega.{arith}
 use lib.ListN.{length, take, drop, length-append, length-drop, length-replicate}
-use lib.Seq.{take-append-le, drop-append-le, drop-drop, drop-at}
+use lib.Seq.{take-append-le, drop-append-le, drop-drop}
 use Rattle.md5.specs.declared.State.{State}
 use Rattle.md5.specs.Md5.{after, blockAt, md5Block, padding, pad, output, md5}
 
@@ -25,18 +25,6 @@ after-add q j zero m = rw add-zero
 after-add q j (suc k) m =
     let e : 64 * (j + k) ≡ 64 * j + 64 * k = omega arith in
     rw (add-suc, after-add q j k m, e, drop-drop)
-
--- the whole blocks of m, with and without what follows m
-pub after-blocks : (q : State) (m t : List ℕ) → after q (length m / 64) (m ++ t) ≡ after q (length m / 64) m
-after-blocks q m t = after-append q (length m / 64) m t (omega arith)
-
--- the blocks of m, and then those of t
-pub after-parts : (q : State) (m t : List ℕ) → length m % 64 ≡ 0
-    → after q (length (m ++ t) / 64) (m ++ t) ≡ after (after q (length m / 64) m) (length t / 64) t
-after-parts q m t h =
-    let ek : length (m ++ t) / 64 ≡ length m / 64 + length t / 64 = rw length-append (omega arith) in
-    let ed : drop (64 * (length m / 64)) (m ++ t) ≡ t = drop-at m t (64 * (length m / 64)) (omega arith) in
-    rw (ek, after-add, after-blocks, ed)
 
 -- one block more, cut out as a loop over places does
 pub after-more : (q r s : State) (at : ℕ) (m : List ℕ) → s ≡ md5Block r (take (at + 64 - at) (drop at m)) → r ≡ after q (at / 64) m
@@ -57,9 +45,6 @@ length-padding n = simp (length-append, length-replicate) (omega arith)
 
 pub length-pad : (m : List ℕ) → length (pad m) ≡ ((length m + 8) / 64 + 1) * 64
 length-pad m = length-append m (padding (length m)) ∙ omega (arith, length-padding (length m))
-
-pub pad-whole : (m : List ℕ) → length (pad m) % 64 ≡ 0
-pad-whole m = omega (arith, length-pad m)
 
 -- a message of n bytes has (n + 8) / 64 + 1 blocks
 pub block-count : (m : List ℕ) → length (pad m) / 64 ≡ (length m + 8) / 64 + 1

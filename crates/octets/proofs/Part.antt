@@ -1,12 +1,12 @@
 -- Parts of a byte run, and what a write does to them: a part beside the bytes written is kept, a write within a part is that write to the part.
 -- Assumes nothing.
 use mathlib.Core.Path.{_≡_, refl, sym, ap, _∙_}
-use mathlib.Core.List.{List, [], _∷_, _++_}
+use mathlib.Core.List.{List, [], _∷_}
 use Prim.Native.Nat.{ℕ, zero, suc, _+_, _-_, _≤_, _<_}
 use native.Mathlib.Nat.{add-suc, add-zero, sub-zero}
 use native.Mathlib.Omega.{arith}
 use lib.ListN.{length, getD, take, drop, set, length-take, length-drop, drop-of-length-le}
-use lib.Seq.{sets, take-nil, take-all, take-take, drop-drop, take-add, getD-take, getD-drop, take-set-le, take-set-lt, drop-set-lt, drop-set-add}
+use lib.Seq.{sets, take-nil, take-all, take-take, drop-drop, getD-take, getD-drop, take-set-le, take-set-lt, drop-set-lt, drop-set-add}
 use Rattle.octets.specs.Runs.{part, write}
 use Rattle.octets.proofs.Write.{write-whole}
 
@@ -22,11 +22,6 @@ byte-part i n l j h = rw (getD-take, getD-drop)
 pub part-of : (i n : ℕ) (l : List ℕ) → take (i + n - i) (drop i l) ≡ part i n l
 unfolding part
 part-of i n l = let e : i + n - i ≡ n = omega arith in rw e
-
--- the code's `&l[i..e]`
-pub part-to : (i e : ℕ) (l : List ℕ) → take (e - i) (drop i l) ≡ part i (e - i) l
-unfolding part
-part-to i e l = refl
 
 -- a part behind the end, and one that the list ends in
 pub part-past : (i n : ℕ) (l : List ℕ) → length l ≤ i → take 0 l ≡ part i n l
@@ -51,11 +46,6 @@ drop-take (suc i) (suc n) (x ∷ l) = let e : suc n - suc i ≡ n - i = omega ar
 pub part-part : (i m j n : ℕ) (l : List ℕ) → i + m ≤ n → part i m (part j n l) ≡ part (j + i) m l
 unfolding part
 part-part i m j n l h = rw (drop-take i n (drop j l), take-take m (n - i) (drop i (drop j l)) (omega arith), drop-drop i j l)
-
--- two parts, one behind the other
-pub part-add : (i n m : ℕ) (l : List ℕ) → part i (n + m) l ≡ part i n l ++ part (i + n) m l
-unfolding part
-part-add i n m l = take-add n m (drop i l) ∙ ap (λ (t : List ℕ). take n (drop i l) ++ take m t) (drop-drop n i l)
 
 kept-before : (vs l : List ℕ) (i m n : ℕ) → i + length vs ≤ m → part m n (sets l i vs) ≡ part m n l
 unfolding part

@@ -16,10 +16,6 @@ module _ (secret p : List ℕ) (c : Cause) where
   unfolding replyOf
   reply-is = refl
 
-  pub mac-is : replyMac secret p c ≡ packetMac secret (authOf p) (headOf p c) (bodyOf p c) (maced p)
-  unfolding replyMac
-  mac-is = refl
-
   pub length-is : replyLength p c ≡ packetLength (bodyOf p c) (maced p)
   unfolding replyLength
   length-is = refl

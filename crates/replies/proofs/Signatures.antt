@@ -7,14 +7,14 @@ use Prim.Native.Nat.{ℕ, _+_, _-_, _≤_}
 use native.Mathlib.Omega.{arith}
 use lib.ListN.{length, take, length-append}
 use lib.Seq.{take-at}
-use Rattle.octets.specs.Runs.{part, write}
+use Rattle.octets.specs.Runs.{write}
 use Rattle.octets.proofs.Write.{write-end}
 use Rattle.signing.specs.Signing.{zeros, authenticator, messageAuthenticator}
 use Rattle.signing.proofs.Blanked.{value-ignored}
 use Rattle.signing.proofs.Messages.{Alike, same-authenticator, same-messageAuthenticator, length-zeros}
 use Rattle.frames.specs.Packets.{packet, packetLength, packetMac, packetAuth, signedPacket}
 use Rattle.frames.proofs.Packets.{length-packet, length-packetMac, length-packetAuth, ends-in}
-use Rattle.replies.proofs.Readback.{with-head, with-behind, part-last}
+use Rattle.replies.proofs.Readback.{with-head, with-behind}
 
 module _ (secret base head body : List ℕ) (present : Bool) (four : length head ≡ 4) (sixteen : length base ≡ 16) where
   mac : List ℕ
@@ -55,14 +55,6 @@ module _ (secret base head body : List ℕ) (present : Bool) (four : length head
     low-x : (auth : List ℕ) → length auth ≡ 16 → 20 ≤ length (x auth)
     unfolding x
     low-x auth la = simp length-append (omega arith)
-
-    pub packet-value : part (packetLength body present - 16) 16 (signedPacket secret base head body present) ≡ packetMac secret base head body present
-    unfolding signedPacket x
-    packet-value =
-        let auth = packetAuth secret base head body present in
-        let mac = packetMac secret base head body present in
-        let l : length (x auth) ≡ packetLength body present - 16 = omega (arith, length-x auth (length-packetAuth secret base head body present)) in
-        rw (ends-in head body present auth mac h) (part-last (x auth) mac (packetLength body present - 16) 16 l (omega (arith, length-packetMac secret base head body present)))
 
     -- the value written over the zeros
     written : packet head body present base mac ≡ write (packet head body present base zeros) (packetLength body present - 16) mac

@@ -1,9 +1,9 @@
--- The attributes of a reply fill its area, and none but the last is of type 80: each of its parts is an attribute as it came, one of a value of known length, or nothing.
+-- The attributes of a reply before its type 80 fill their place, and none of them is of type 80: each part is an attribute as it came, one of a value of known length, or nothing.
 -- Assumes nothing.
-use mathlib.Core.Path.{_≡_, refl, ap, _∙_}
+use mathlib.Core.Path.{_≡_, refl}
 use mathlib.Core.Bool.{Bool, true, false, cond}
 use mathlib.Core.List.{List, [], _∷_, _++_, List·Memᴰ, List·Memᴰ·head, List·Memᴰ·tail}
-use Prim.Native.Nat.{ℕ, _+_, _≤_}
+use Prim.Native.Nat.{ℕ, _+_}
 use native.Mathlib.Omega.{arith}
 use borrow.Author.Tests.{eqb-true}
 use lib.ListN.{length}
@@ -13,7 +13,7 @@ use Rattle.attributes.specs.declared.Attribute.{Attribute}
 use Rattle.attributes.specs.declared.Search.{Search}
 use Rattle.attributes.specs.declared.Search.the-variants.{At, Missing}
 use Rattle.attributes.specs.declared.Step.the-variants.{Found}
-use Rattle.attributes.specs.Attributes.{stepAt, valueOf, attributes, tiled, firstOf, kindIs}
+use Rattle.attributes.specs.Attributes.{stepAt, valueOf, attributes, firstOf, kindIs}
 use Rattle.attributes.proofs.Searches.{first-passes}
 use Rattle.attributes.proofs.Steps.{step-inv}
 use Rattle.attributes.proofs.Stands.{first-stands, member-stands}
@@ -22,11 +22,8 @@ use Rattle.causes.specs.declared.Cause.{Cause}
 use Rattle.causes.specs.Causes.{errorCause}
 use Rattle.packets.specs.Packet.{areaOf}
 use Rattle.rules.specs.Verdict.{applies}
-use Rattle.reply.specs.Reply.{asCame, ifFound, statePart, causePart, proxiesIn, proxyPart, bodyOf, maced, replyLength, replyMac, replyOf}
-use Rattle.reply.proofs.Lengths.{length-replyMac}
-use Rattle.replies.proofs.Back.{reply-area}
+use Rattle.reply.specs.Reply.{asCame, ifFound, statePart, causePart, proxiesIn, proxyPart, bodyOf}
 use Rattle.replies.proofs.Plain.{Plain, plain-nil, plain-both, plain-bytes}
-use Rattle.replies.proofs.Trailing.{trailing-tiled}
 
 -- an attribute as it came
 came-plain : (s : List ℕ) (a : Attribute) → stepAt s (a .at) ≡ Found a (a .at + a .size) → (a .kind ≡ 80 → ⊥) → Plain (asCame s a)
@@ -67,6 +64,3 @@ unfolding bodyOf
 body-plain p c =
     let s = areaOf p in
     plain-both (statePart s ++ causePart c) (proxyPart s) (plain-both (statePart s) (causePart c) (state-plain s) (cause-plain c)) (all-plain s)
-
-pub reply-tiled : (secret p : List ℕ) (c : Cause) → replyLength p c ≤ 4096 → tiled (areaOf (replyOf secret p c)) ≡ true
-reply-tiled secret p c h = ap tiled (reply-area secret p c h) ∙ trailing-tiled (bodyOf p c) (replyMac secret p c) (body-plain p c) (length-replyMac secret p c) (maced p)

@@ -2,7 +2,7 @@
 -- Assumes nothing.
 use mathlib.Core.Path.{_≡_, ap}
 use mathlib.Core.List.{List}
-use Prim.Native.Nat.{ℕ, suc, _≤_}
+use Prim.Native.Nat.{ℕ, suc}
 use native.Mathlib.Omega.{arith}
 use lib.ListN.{length}
 use Rattle.octets.proofs.Numbers.{length-beBytes}
@@ -32,7 +32,3 @@ module _ (secret p : List ℕ) (c : Cause) where
   pub length-replyOf : length (replyOf secret p c) ≡ replyLength p c
   unfolding replyOf replyLength
   length-replyOf = length-signed secret (authOf p) (headOf p c) (bodyOf p c) (maced p) (length-head p c)
-
-pub twenty : (p : List ℕ) (c : Cause) → 20 ≤ replyLength p c
-unfolding replyLength
-twenty p c = packet-low (bodyOf p c) (maced p)

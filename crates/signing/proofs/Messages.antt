@@ -1,14 +1,12 @@
 -- The messages under the signatures: their lengths, and what they do not look at. They take bytes 0 to 3 and those from 20 up to Length,
 -- so two packets that agree there have the same signatures, whatever stands in the authenticator's place or behind Length. Assumes nothing.
 use mathlib.Core.Path.{_≡_, refl, sym, ap, _∙_}
-use mathlib.Core.List.{List, [], _∷_, _++_}
+use mathlib.Core.List.{List, [], _∷_}
 use Prim.Native.Nat.{ℕ, zero, suc, _+_, _-_, _≤_}
 use native.Mathlib.Nat.{sub-zero}
 use native.Mathlib.Omega.{arith}
 use lib.ListN.{length, take, drop, length-append, length-take, length-drop}
-use lib.Seq.{take-nil, take-take, take-append-le, length-take-le}
-use Rattle.octets.specs.Runs.{part, write}
-use Rattle.octets.proofs.Part.{part-before, part-behind}
+use lib.Seq.{take-nil, take-take}
 use Rattle.md5.proofs.After.{length-md5}
 use Rattle.hmac.proofs.Runs.{length-hmac}
 use Rattle.signing.specs.Signing.{zeros, withAuth, signed, authenticator, messageAuthenticator}
@@ -55,21 +53,6 @@ same-first n p p′ h e =
     record {
       head = sym (take-take 4 n p h) ∙ ap (take 4) e ∙ take-take 4 n p′ h;
       attributes = ap (drop 20) e;
-    }
-
--- so bytes behind Length change nothing
-pub padding-ignored : (n : ℕ) (p x : List ℕ) → 4 ≤ n → n ≤ length p → Alike n (take n p ++ x) p
-padding-ignored n p x h f =
-    let l : length (take n p) ≡ n = length-take-le n p f in
-    same-first n (take n p ++ x) p h (take-append-le n (take n p) x (omega arith) ∙ take-take n n p (omega arith))
-
--- so do the bytes in the authenticator's place
-pub field-ignored : (n : ℕ) (p v : List ℕ) → length v ≡ 16 → Alike n (write p 4 v) p
-unfolding part
-field-ignored n p v l =
-    record {
-      head = part-before p 4 v 0 4 (omega arith);
-      attributes = drop-take 20 n (write p 4 v) ∙ part-behind p 4 v 20 (n - 20) (omega arith) ∙ sym (drop-take 20 n p);
     }
 
 module _ (n : ℕ) (p p′ : List ℕ) (alike : Alike n p p′) (auth : List ℕ) where
