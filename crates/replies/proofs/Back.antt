@@ -8,7 +8,7 @@ use Rattle.causes.specs.declared.Cause.{Cause}
 use Rattle.packets.specs.Packet.{codeOf, identifierOf, lengthOf, authOf, areaOf}
 use Rattle.rules.specs.Verdict.{applies}
 use Rattle.reply.specs.Reply.{bodyOf, maced, replyLength, headOf, replyMac, replyAuth, replyOf}
-use Rattle.frames.specs.Packets.{macValued, packet, packetLength, packetMac, signedPacket}
+use Rattle.frames.specs.Packets.{macValued, packet, packetLength, signedPacket}
 use Rattle.replies.proofs.Readback.{signed-code, signed-identifier, signed-length, signed-auth, signed-area}
 
 module _ (secret p : List ℕ) (c : Cause) where

@@ -11,7 +11,7 @@ use Rattle.causes.specs.declared.Cause.{Cause}
 use Rattle.packets.specs.Packet.{authOf}
 use Rattle.packets.specs.Discards.{Sized}
 use Rattle.reply.specs.Reply.{bodyOf, maced, replyLength, headOf, replyMac, replyAuth, replyOf}
-use Rattle.frames.proofs.Packets.{length-packetMac, length-packetAuth, length-signed, packet-low}
+use Rattle.frames.proofs.Packets.{length-packetMac, length-packetAuth, length-signed}
 
 pub length-auth : (p : List ℕ) (n : ℕ) → Sized p n → length (authOf p) ≡ 16
 length-auth p n z = length-part 4 16 p (omega (arith, z .low, z .given))

@@ -25,9 +25,9 @@ of-six : (s : List ℕ) (x : Search) → sizeOf x ≡ 6 → Usable (be (endOf x 
 of-six s (At a) h = let e : a .at + a .size - 4 ≡ a .at + 2 = omega arith in rw (eq-eqb _ _ h) (ap (λ (n : ℕ). Usable (be n 4 s)) e)
 of-six s Missing h = absurd (omega arith)
 
-six-low : (x : Search) → sizeOf x ≡ 6 → 4 ≤ endOf x
-six-low (At a) h = omega arith
-six-low Missing h = absurd (omega arith)
+size-low : (x : Search) → sizeOf x ≤ endOf x
+size-low (At a) = omega arith
+size-low Missing = omega arith
 
 of-other : (s : List ℕ) (x : Search) → (sizeOf x ≡ 6 → ⊥) → Unusable ≡ stampIn s x
 of-other s (At a) h = rw (ne-eqb _ _ h)
@@ -51,6 +51,24 @@ module _ (s : List ℕ) (code : ℕ) (f : Flags) (count ends sizes : List ℕ) (
   not-33 : _≡_ {A = ℕ} 55 33 → ⊥
   not-33 e = omega arith
 
+  module _ (end : ℕ) (w : end ≡ getD ends 55 0) where
+    where-ends : end ≡ endOf stamped
+    where-ends = w ∙ i .types 55 (lit< tt) not-33 .end
+
+    -- n is the length of the first, m a place of it from its end
+    module _ (n m : ℕ) (k : getD sizes 55 0 ≡ n) (l : m ≤ n) where
+      pub stamp-low : m ≤ end
+      stamp-low =
+          let size : getD sizes 55 0 ≡ sizeOf stamped = i .types 55 (lit< tt) not-33 .size in
+          let g : sizeOf stamped ≤ end = rw where-ends (size-low stamped) in
+          omega arith
+
+      pub stamp-room : 4 ≤ m → end - m + 4 ≤ length s
+      stamp-room four =
+          let g = stamp-low in
+          let h : end ≤ length s = rw where-ends (inside (kindIs 55) s stamped refl) in
+          omega arith
+
   pub stamp-count : (getD count 55 0 ≡ 1 → ⊥) → Unusable ≡ stampOf s
   unfolding stampOf
   stamp-count h =
@@ -64,22 +82,6 @@ module _ (s : List ℕ) (code : ℕ) (f : Flags) (count ends sizes : List ℕ) (
     unfolding stampOf
     stamp-size k = rw once (of-other s stamped (λ e. k (i .types 55 (lit< tt) not-33 .size ∙ e)))
 
-    module _ (k : getD sizes 55 0 ≡ 6) (end : ℕ) (w : end ≡ getD ends 55 0) where
-      where-ends : end ≡ endOf stamped
-      where-ends = w ∙ i .types 55 (lit< tt) not-33 .end
-
-      six : sizeOf stamped ≡ 6
-      six = sym (i .types 55 (lit< tt) not-33 .size) ∙ k
-
-      pub stamp-low : 4 ≤ end
-      stamp-low = rw where-ends (six-low stamped six)
-
-      pub stamp-room : end - 4 + 4 ≤ length s
-      stamp-room =
-          let l = stamp-low in
-          let m : end ≤ length s = rw where-ends (inside (kindIs 55) s stamped refl) in
-          omega arith
-
-      pub stamp-usable : (v : ℕ) → v ≡ be (end - 4) 4 s → Usable v ≡ stampOf s
-      unfolding stampOf
-      stamp-usable v e = rw (once, e, where-ends) (of-six s stamped six)
+    pub stamp-usable : getD sizes 55 0 ≡ 6 → (end : ℕ) → end ≡ getD ends 55 0 → (v : ℕ) → v ≡ be (end - 4) 4 s → Usable v ≡ stampOf s
+    unfolding stampOf
+    stamp-usable k end w v e = rw (once, e, where-ends end w) (of-six s stamped (sym (i .types 55 (lit< tt) not-33 .size) ∙ k))
