@@ -24,6 +24,14 @@ or-none true b = refl
 or-none false true = refl
 or-none false false = refl
 
+-- R12: the code's two tests
+module _ (code : ℕ) where
+  pub code-disconnect : code ≡ 40 → true ≡ (eqb code 40 || eqb code 43)
+  code-disconnect h = rw (eq-eqb _ _ h)
+
+  pub code-change : (code ≡ 40 → ⊥) → eqb code 43 ≡ (eqb code 40 || eqb code 43)
+  code-change h = rw (ne-eqb _ _ h)
+
 -- R13: m is the most bytes
 module _ (g : List ℕ) (add : Bool) (m : ℕ) (is : m ≡ cond add 4058 4076) where
   pub given-long : m < length g → (code identifier : ℕ) → true ≡ badGiven (draft code identifier g add)

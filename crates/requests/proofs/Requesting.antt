@@ -29,6 +29,12 @@ long-case n add true y z e h = absurd (false≢true (rw (← h)))
 long-case n add false true z e h = absurd (false≢true (rw (← h)))
 long-case n add false false true e h = absurd (false≢true (rw (← h)))
 
+pub header-low : (n : ℕ) → 20 ≤ 20 + n
+header-low n = omega arith
+
+-- a place behind the header and not behind the attributes
+pub ruleset places = (header-low)
+
 module _ (g : List ℕ) (code identifier : ℕ) (add : Bool) (good : badGiven (draft code identifier g add) ≡ false) where
   pub given-short : length g + length (macRoom add) ≤ 4076
   unfolding badGiven macRoom
@@ -37,20 +43,19 @@ module _ (g : List ℕ) (code identifier : ℕ) (add : Bool) (good : badGiven (d
   pub copy-fits : (m : ℕ) → 4096 ≤ m → 20 + length g ≤ m
   copy-fits m h = omega (arith, given-short)
 
-  pub room-fits : (m k : ℕ) → 4096 ≤ m → k ≡ m → 20 + length g + length (macRoom add) ≤ k
-  room-fits m k h e = omega (arith, given-short)
+  -- type 80 goes to place at
+  pub room-fits : (at m k : ℕ) → at ≤ 20 + length g → 4096 ≤ m → k ≡ m → at + length (macRoom add) ≤ k
+  room-fits at m k l h e = omega (arith, given-short)
 
   -- e is the end of the last part
+  module _ (e at : ℕ) (he : e ≡ at + length (macRoom add)) where
+    pub end-low : 20 ≤ at → 20 + length (macRoom add) ≤ e
+    end-low l = omega arith
+
+    pub end-high : at ≤ 20 + length g → e ≤ 4096
+    end-high l = omega (arith, given-short)
+
   module _ (e : ℕ) (he : e ≡ 20 + length g + length (macRoom add)) where
-    pub end-low : 20 + length (macRoom add) ≤ e
-    end-low = omega arith
-
-    pub end-high : e ≤ 4096
-    end-high = omega (arith, given-short)
-
-    pub end-fits : (m k₁ k₂ k₃ : ℕ) → 4096 ≤ m → k₁ ≡ m → k₂ ≡ k₁ → k₃ ≡ k₂ → e ≤ k₃
-    end-fits m k₁ k₂ k₃ room e₁ e₂ e₃ = omega (arith, end-high)
-
     pub end-is : e ≡ requestLength (draft code identifier g add)
     unfolding requestLength macRoom packetLength macValued
     end-is = he

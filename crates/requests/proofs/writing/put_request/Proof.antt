@@ -2,7 +2,7 @@
 -- Assumes nothing.
 use mathlib.Core.Path.{refl}
 use borrow.Author.Needs.{needs}
-use Rattle.requests.proofs.Requesting.{copy-fits, room-fits, end-low, end-high, end-fits, end-is, requested}
+use Rattle.requests.proofs.Requesting.{places, copy-fits, room-fits, end-low, end-high, end-is, requested}
 use Rattle.requests.proofs.writing.put_request.Statement.{statement}
 use Rattle.requests.proofs.writing.put_request.Tie as tie
 
@@ -10,16 +10,31 @@ copy-requires : tie.Need-copy-requires
 copy-requires c κs = search (needs, copy-fits)
 
 put-room-requires : tie.Need-put-room-requires
-put-room-requires c κs = search (needs, room-fits)
+put-room-requires c κs = search (needs, places, room-fits)
 
 put-front-requires : tie.Need-put-front-requires
-put-front-requires c κs = (search needs, search (needs, end-high), refl)
+put-front-requires c κs = (search needs, search (needs, places, end-high), refl)
 
 put-seals-requires : tie.Need-put-seals-requires
-put-seals-requires c κs = (search (needs, end-low), search (needs, end-fits))
+put-seals-requires c κs =
+    let front = c .before .before .before in
+    let room = front .before .before .before .before .before in
+    let given = room .before .before .before .before in
+    let start = given .before .before .before .before .before in
+    let high = end-high _ _ _ _ (start .pre .0) _ _ (room .put-room .ensures .1) (search (needs, places)) in
+    (search (needs, places, end-low), search (needs, high))
 
 returns : tie.Need-returns
-returns c = (search (needs, requested), search (needs, end-is))
+returns c =
+    let seals = c .before .before in
+    let front = seals .before .before .before .before in
+    let room = front .before .before .before .before .before in
+    let given = room .before .before .before .before in
+    let start = given .before .before .before .before .before in (
+      requested _ _ _ _ (start .pre .0) _ (room .put-room .ensures .1) _ _ _ _ _ _ (start .pre .1) (given .copy .ensures) (room .put-room .ensures .0)
+          (front .put-front .ensures) (seals .put-seals .ensures),
+      search (needs, end-is),
+    )
 
 pub put-request-spec : {M : Type 1} → statement M
 put-request-spec =

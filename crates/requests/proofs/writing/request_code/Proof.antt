@@ -1,14 +1,15 @@
 -- `requests::writing::request_code` meets its contract: by its two tests.
 -- Assumes nothing.
-use borrow.Author.Tests.{eq-eqb, ne-eqb}
+use borrow.Author.Needs.{needs}
+use Rattle.requests.proofs.Refusals.{code-disconnect, code-change}
 use Rattle.requests.proofs.writing.request_code.Statement.{statement}
 use Rattle.requests.proofs.writing.request_code.Tie as tie
 
 returns : tie.Need-returns
-returns c = rw (eq-eqb _ _ (c .if1 .taken))
+returns c = search (needs, code-disconnect)
 
 returns-2 : tie.Need-returns-2
-returns-2 c = rw (ne-eqb _ _ (c .if1 .left))
+returns-2 c = search (needs, code-change)
 
 pub request-code-spec : {M : Type 1} → statement M
 request-code-spec =
