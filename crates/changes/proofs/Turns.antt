@@ -61,3 +61,10 @@ module _ (p : List ℕ) (c : Change) (marks t t₀ : List ℕ) (k : ℕ) (e : t 
 
 pub all-counted : (marks t₀ : List ℕ) (k m n : ℕ) → m ≡ countMarked marks k t₀ → n ≡ slotCount t₀ → k ≤ n → n ≤ k → m ≡ countMarked marks (slotCount t₀) t₀
 all-counted marks t₀ k m n e q h g = e ∙ ap (λ (i : ℕ). countMarked marks i t₀) (le-antisymm h g ∙ q)
+
+-- a test tells as much where another is joined to it
+pub both-first : (a b : Bool) → (a && b) ≡ true → a ≡ true
+both-first true b h = refl
+both-first false b h = h
+
+pub ruleset turn-taken = (turn-changed, turn-counted, both-first)

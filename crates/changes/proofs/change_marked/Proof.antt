@@ -6,7 +6,7 @@ use mathlib.Core.Logic.{⊎-elim}
 use lib.ListN.{length}
 use Rattle.slots.proofs.Count.{Counted, counted-is}
 use Rattle.changes.specs.Change.{changeMarked, countMarked}
-use Rattle.changes.proofs.Turns.{none-changed, none-counted, walk-fits, walk-long, turn-changed, turn-kept, turn-counted, turn-passed, all-changed, all-counted}
+use Rattle.changes.proofs.Turns.{none-changed, none-counted, walk-fits, walk-long, turn-taken, turn-kept, turn-passed, all-changed, all-counted}
 use borrow.Author.Needs.{needs}
 use Rattle.changes.proofs.change_marked.Statement.{statement}
 use Rattle.changes.proofs.change_marked.Tie as tie
@@ -26,7 +26,7 @@ change-slot-requires c κs = search (needs, walk-fits)
 loop-again : tie.Need-loop-again Inv-loop μ-loop
 loop-again c =
     ⊎-elim
-    (λ w. search (needs, turn-changed, turn-counted))
+    (λ w. search (needs, turn-taken))
     (λ w. search (needs, turn-kept, turn-passed))
     (c .if1 .came)
 
