@@ -9,7 +9,8 @@ use Rattle.settings.specs.Settings.{Settings}
 use Rattle.answers.specs.declared.Answer as D
 use Rattle.answers.specs.declared.Answer.the-variants as A
 use Rattle.handler.specs.Handle.{handleAnswer}
-use Rattle.handler.proofs.Bounds.{replySize, changeCount, reply-most, change-few}
+use Rattle.answers.specs.Told.{replySize}
+use Rattle.handler.proofs.Bounds.{changeCount, reply-most, change-few}
 use Rattle.reports.specs.Numbers.{numberOf, changedBy, lengthBy, skewBy, stampedBy}
 
 changed-is : (a : D.Answer) → changedBy a 0 ≡ changeCount a

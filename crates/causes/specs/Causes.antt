@@ -1,4 +1,4 @@
--- The NAK causes 1 to 6, first that applies (document 01, "NAK causes"). Each rule is the first attribute that breaks it, where one does.
+-- The NAK causes 1 to 6, first that applies (document 01, "NAK causes"). Each is a test of the attributes in their order.
 -- Assumes nothing.
 use mathlib.Core.Bool.{Bool, cond, not, _&&_, _||_}
 use mathlib.Core.List.{List}

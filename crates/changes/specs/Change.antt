@@ -1,4 +1,4 @@
--- What a request does to the sessions it names: a Disconnect ends them, a CoA alters the fields that it names (document 01, "The session table").
+-- How a slot is ended or altered, and the slots of a table that are named or marked (document 01, "The session table").
 -- Assumes nothing.
 use mathlib.Core.Bool.{Bool, _&&_, cond}
 use mathlib.Core.List.{List}

@@ -9,7 +9,7 @@ use Rattle.settings.specs.Settings.{Settings}
 use Rattle.answers.specs.declared.Answer.{Answer}
 use Rattle.answers.specs.declared.Answer.the-variants as A
 use Rattle.handler.specs.Handle.{handleAnswer, handleReply}
-use Rattle.demands.specs.Answers.{silent}
+use Rattle.answers.specs.Told.{silent}
 use Rattle.demands.proofs.Second.{demand2}
 use Rattle.corollaries.specs.Corollaries.{Passes}
 

@@ -24,7 +24,7 @@ use Rattle.scheduler.specs.Calls.{openCalled, openStore, stepCalled, stepTable,
 use Rattle.scheduler.specs.Runs.{Call, Open, Step, Drop, Start, End, World, Ran, call, run}
 use Rattle.serial.specs.Serial.{Note, noted, noteAt}
 use Rattle.serial.specs.Demand3.{world, serially, New}
-use Rattle.demands.specs.Answers.{silent}
+use Rattle.answers.specs.Told.{silent}
 
 -- b is the reply buffer before, r after: it holds a reply to the request p, and that reply passes our check
 pub record Passes (secret p b r : List ℕ) : Type 0 where

@@ -1,5 +1,5 @@
--- A slot against a list of criteria, as the code walks it. Which sessions a request names is said in effects/specs/Matching.antt; of this file the contracts use
--- `fieldBytes` alone, the field of a session that a criterion asks for.
+-- A slot against a list of criteria, as the code walks it. Which sessions a request names is said in effects/specs/Matching.antt; of this file the contracts of the
+-- calls use `fieldBytes` alone, the field of a session that a criterion asks for.
 -- Assumes nothing.
 use mathlib.Core.Bool.{Bool, true, _&&_}
 use mathlib.Core.List.{List, [], _∷_}
@@ -21,7 +21,7 @@ fieldBytes FramedAddress s = part 6 4 s
 fieldBytes CallingStation s = text 115 s
 fieldBytes SessionId s = text 82 s
 
--- where a field begins: a number below 18, a text with its length
+-- where a field begins: a number before place 18, a text with its length byte
 unfoldable pub place : Field → ℕ
 place UserName = 18
 place NasPort = 2

@@ -31,7 +31,7 @@ use Rattle.handler.specs.Refusals.{refusalOf}
 use Rattle.handler.specs.Handle.{answerOf, handleAnswer}
 use Rattle.reply_check.specs.ReplyCheck.{checkAnswer}
 use Rattle.exchanges.proofs.Answered.{reply-passes}
-use Rattle.demands.specs.Answers.{silent}
+use Rattle.answers.specs.Told.{silent}
 use Rattle.demands.specs.Demand2.{Carries}
 use Rattle.demands.proofs.Replied.{formed}
 

@@ -20,7 +20,7 @@ use Rattle.answers.specs.declared.Answer.the-variants as A
 use Rattle.handler.specs.Refusals.{refusalOf}
 use Rattle.handler.specs.Handle.{answerOf, handleAnswer}
 use Rattle.replies.proofs.Fresh.{answered, fits}
-use Rattle.demands.specs.Answers.{silent}
+use Rattle.answers.specs.Told.{silent}
 
 pub record Formed (g : Settings) (p : List ℕ) (clock : ℕ) : Type 0 where
   pub form : formOf p ≡ 0

@@ -32,7 +32,7 @@ use Rattle.demands.specs.Demand2.{Bytes, Altered, Judging, Demand2}
 use Rattle.demands.proofs.Handled.{refused, judged}
 use Rattle.demands.proofs.Carried.{nak-size, ack-size, carries}
 use Rattle.demands.proofs.Acked.{acked}
-use Rattle.demands.proofs.Silent.{silent-table-by, silent-reply-by, size-is}
+use Rattle.demands.proofs.Silent.{silent-table-by, silent-reply-by}
 
 others-by : (p t : List ℕ) (k : ℕ) (a : D.Answer) → k < slotCount t → matchesIn (areaOf p) t k ≡ false → slot k (tableAs p t a) ≡ slot k t
 others-by p t k (A.Refused n) l h = refl
@@ -99,7 +99,7 @@ judging g t b p clock =
       ack-reply = λ m skew n e. reply-of g t b p clock (A.Ack m skew n) e;
       nak-size = nak-size g t b p clock;
       ack-size = ack-size g t b p clock;
-      never-longer = rw (size-is (handleAnswer g t b p clock)) (reply-bound g t b p clock);
+      never-longer = reply-bound g t b p clock;
       carries = carries g t b p clock;
       count = λ m skew n e. acked g t p clock m n skew b e .count;
       others = λ k l h. ap (slot k) (table-of g t b p clock (handleAnswer g t b p clock) refl) ∙ others-by p t k (handleAnswer g t b p clock) l h;

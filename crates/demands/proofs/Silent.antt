@@ -8,8 +8,7 @@ use Rattle.answers.specs.declared.Answer as D
 use Rattle.answers.specs.declared.Answer.the-variants as A
 use Rattle.answers.specs.Replies.{replyAs}
 use Rattle.handler.specs.Handle.{tableAs}
-use Rattle.handler.proofs.Bounds as B
-use Rattle.demands.specs.Answers.{silent, replySize}
+use Rattle.answers.specs.Told.{silent}
 
 pub silent-table-by : (p t : List ℕ) (a : D.Answer) → silent a ≡ true → tableAs p t a ≡ t
 silent-table-by p t (A.Refused n) h = refl
@@ -24,10 +23,3 @@ silent-reply-by secret p b (A.Discarded d) h = refl
 silent-reply-by secret p b (A.Stale k) h = refl
 silent-reply-by secret p b (A.Nak c k n) h = absurd (true≢false (sym h))
 silent-reply-by secret p b (A.Ack m k n) h = absurd (true≢false (sym h))
-
-pub size-is : (a : D.Answer) → replySize a ≡ B.replySize a
-size-is (A.Refused n) = refl
-size-is (A.Discarded d) = refl
-size-is (A.Stale k) = refl
-size-is (A.Nak c k n) = refl
-size-is (A.Ack m k n) = refl

@@ -35,7 +35,7 @@ use Rattle.requests.specs.declared.Written.the-variants.{Done}
 use Rattle.requests.specs.Writer.{Draft, writeRefusal, requestOf, writeAnswer, writeOutput}
 use Rattle.reply_check.specs.declared.Checked.the-variants.{Right}
 use Rattle.reply_check.specs.ReplyCheck.{checkAnswer}
-use Rattle.demands.specs.Answers.{silent, replySize}
+use Rattle.answers.specs.Told.{silent, replySize}
 
 -- a list of bytes
 abbrev pub Bytes : List ℕ → Type 0

@@ -1,3 +1,2 @@
-pub mod Answers
 pub mod Demand1
 pub mod Demand2

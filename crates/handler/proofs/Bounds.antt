@@ -25,19 +25,13 @@ use Rattle.reply.specs.Reply.{replyLength}
 use Rattle.effects.specs.Matching.{matchesIn, matchCount}
 use Rattle.answers.specs.declared.Answer as D
 use Rattle.answers.specs.declared.Answer.the-variants as A
+use Rattle.answers.specs.Told.{replySize}
 use Rattle.answers.specs.Commit.{countAnswer}
 use Rattle.handler.specs.Refusals.{refusalOf}
 use Rattle.handler.specs.Handle.{answerOf, handleAnswer}
 use Rattle.replies.proofs.Fresh.{answered, fits}
 
--- the reply's length, and the number of sessions changed
-abbrev pub replySize : D.Answer → ℕ
-replySize (A.Refused n) = 0
-replySize (A.Discarded d) = 0
-replySize (A.Stale k) = 0
-replySize (A.Nak c k n) = n
-replySize (A.Ack m k n) = n
-
+-- the number of sessions changed
 abbrev pub changeCount : D.Answer → ℕ
 changeCount (A.Refused n) = 0
 changeCount (A.Discarded d) = 0

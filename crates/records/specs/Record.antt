@@ -48,6 +48,6 @@ recordOf x =
     ++ textField 32 (x .filter)
     ++ replicate 11 0
 
--- R8: a text's length outside the record's limits
+-- R8 does not apply: the length of every text is within the record's limits
 unfoldable pub fitsRecord : Session → Bool
 fitsRecord x = within 1 63 (length (x .user)) && (within 1 32 (length (x .id)) && (within 0 32 (length (x .station)) && within 0 32 (length (x .filter))))

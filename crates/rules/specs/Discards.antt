@@ -7,6 +7,6 @@ use Rattle.octets.specs.Runs.{equalBytes}
 use Rattle.packets.specs.Packet.{lengthOf, authOf}
 use Rattle.signing.specs.Signing.{zeros, authenticator}
 
--- D4: the authenticator in the packet is the request's
+-- D4 does not apply: the authenticator in the packet is the one that the secret gives
 unfoldable pub signedBy : List ℕ → List ℕ → Bool
 signedBy secret p = equalBytes (authOf p) (authenticator zeros p (lengthOf p) secret)

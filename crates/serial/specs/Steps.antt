@@ -1,12 +1,12 @@
 -- What a step tells, and what its job awaits: the words in which the laws of steps are stated.
 -- Assumes nothing.
-use mathlib.Core.Bool.{Bool, true, false, not}
+use mathlib.Core.Bool.{Bool, false, not}
 use mathlib.Core.List.{List}
 use Prim.Native.Nat.{ℕ}
 use lib.Dec.{ltb}
 use Rattle.slots.specs.Slot.{slotCount}
 use Rattle.answers.specs.declared.Answer as A′
-use Rattle.answers.specs.declared.Answer.the-variants as A
+use Rattle.answers.specs.Told.{silent}
 use Rattle.jobs.specs.declared.Stage as S
 use Rattle.jobs.specs.declared.Stage.the-variants.{Free, Hash, Check, Match}
 use Rattle.scheduler.specs.declared.Outcome as O
@@ -26,11 +26,7 @@ doneWith f Ended = false
 
 -- the answer has a reply
 abbrev pub replied : A′.Answer → Bool
-replied (A.Refused n) = false
-replied (A.Discarded d) = false
-replied (A.Stale skew) = false
-replied (A.Nak c skew n) = true
-replied (A.Ack k skew n) = true
+replied a = not (silent a)
 
 -- finished in ACK
 abbrev pub acks : O.Outcome → Bool

@@ -9,7 +9,7 @@ use lib.Seq.{take-append-add, drop-append-add, take-take, drop-drop}
 use Rattle.octets.specs.Runs.{part, write}
 use Rattle.octets.proofs.Part.{part-before, part-behind}
 use Rattle.octets.proofs.Write.{length-write}
-use Rattle.signing.specs.Signing.{withAuth, blanked, messageAuthenticator}
+use Rattle.signing.specs.Signing.{zeros, withAuth, blanked, messageAuthenticator}
 use Rattle.signing.proofs.Messages.{between, drop-take}
 
 -- what comes before the attributes
@@ -24,7 +24,7 @@ length-between i e p h g = simp (length-take, length-drop) (omega arith)
 
 pub blanked-pieces : (auth p : List ℕ) (n at : ℕ) → n ≤ length p → length auth ≡ 16 → 20 ≤ at → at + 16 ≤ n
     → blanked at (withAuth auth p n) ≡ front p auth ++ between 20 at p ++ replicate 16 0 ++ between (at + 16) n p
-unfolding blanked withAuth
+unfolding blanked withAuth zeros
 blanked-pieces auth p n at fits long from to =
     let f = front p auth in
     let a = drop 20 (take n p) in

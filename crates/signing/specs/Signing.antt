@@ -24,7 +24,7 @@ authenticator auth p n secret = md5 (signed auth p n secret)
 
 -- a message with zeros in the place of the 16 bytes from place at on
 unfoldable pub blanked : ℕ → List ℕ → List ℕ
-blanked at m = take at m ++ replicate 16 0 ++ drop (at + 16) m
+blanked at m = take at m ++ zeros ++ drop (at + 16) m
 
 -- the Message-Authenticator whose value stands at place at of the packet
 unfoldable pub messageAuthenticator : List ℕ → List ℕ → ℕ → ℕ → List ℕ → List ℕ

@@ -1,4 +1,4 @@
-// One step of a job.
+// A step call: R1, R4, R5, R7; the job moved by its part of the store; after an ACK all others restarted.
 ghost use mathlib.Core.Path.{_≡_};
 ghost use mathlib.Core.Bool.{cond};
 ghost use Prim.Native.Nat.{_≤_, _<_};
