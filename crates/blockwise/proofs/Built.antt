@@ -8,12 +8,13 @@ use native.Mathlib.Omega.{arith}
 use lib.ListN.{length, take, drop, replicate, length-append, length-take, length-drop, length-replicate}
 use lib.Seq.{take-all, take-take, take-append-le, drop-append-le, drop-append-add, drop-drop}
 use Rattle.octets.specs.Runs.{part}
+use Rattle.octets.proofs.Part.{drop-take}
 use Rattle.md5.specs.declared.State.{State}
 use Rattle.md5.specs.Md5.{leBytes, padding, pad, after, md5Block}
 use Rattle.signing.specs.Signing.{zeros, withAuth, signed}
 use Rattle.blockwise.specs.Block.{blockCount, requestBlock, hashed}
 use Rattle.blockwise.specs.Window.{window}
-use Rattle.signing.proofs.Messages.{between, drop-take, length-zeros, length-withAuth, length-signed}
+use Rattle.signing.proofs.Messages.{between, length-zeros, length-withAuth, length-signed}
 use Rattle.blockwise.proofs.Stepwise.{length-requestBlock}
 use Rattle.blockwise.proofs.Windows.{window-none, window-full}
 

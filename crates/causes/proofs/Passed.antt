@@ -1,12 +1,13 @@
 -- Where no cause applies: what a handler may count on. Each fact is one test of the definition that failed, read at an attribute of the area.
 -- Assumes nothing.
 use mathlib.Core.Path.{_≡_, refl, ap, _∙_}
-use mathlib.Core.Bool.{Bool, true, false, cond, not, _&&_, _||_, true≢false, false≢true}
+use mathlib.Core.Bool.{Bool, true, false, cond, _&&_, true≢false, false≢true}
 use mathlib.Core.List.{List, [], _∷_, List·Memᴰ, List·Memᴰ·not-nil, List·Memᴰ·cases-cons}
 use mathlib.Core.Logic.{_⊎_, inl, inr}
 use Prim.Native.Nat.{ℕ, _≤_}
 use lib.Dec.{eqb}
 use borrow.Author.Tests.{eq-eqb, eqb-true, ltb-false}
+use Rattle.octets.proofs.Bools.{neither, not-false}
 use Rattle.attributes.specs.declared.Attribute.{Attribute}
 use Rattle.attributes.specs.declared.Search.{Search}
 use Rattle.attributes.specs.declared.Search.the-variants.{At}
@@ -21,21 +22,9 @@ use Rattle.causes.proofs.Firsts.{exactly}
 
 -- ---- where none passes a test, each fails it
 
-or-left : (a b : Bool) → (a || b) ≡ false → a ≡ false
-or-left true b e = e
-or-left false b e = refl
-
-or-right : (a b : Bool) → (a || b) ≡ false → b ≡ false
-or-right true b e = absurd (true≢false e)
-or-right false b e = e
-
 and-first : (a b : Bool) → a ≡ true → (a && b) ≡ false → b ≡ false
 and-first true b h e = e
 and-first false b h e = absurd (false≢true h)
-
-not-true : (b : Bool) → not b ≡ false → b ≡ true
-not-true true e = refl
-not-true false e = absurd (true≢false e)
 
 head : (t : Bool) (b : Attribute) (x : Search) → found (cond t (At b) x) ≡ false → t ≡ false
 head true b x e = e
@@ -58,7 +47,7 @@ fails p (b ∷ l) h a m = by-head p a b l h (λ g n. fails p l g a n) (List·Mem
 module _ (s : List ℕ) (misfit : any misfitting (attributes s) ≡ false) (a : Attribute) (m : List·Memᴰ a (attributes s)) where
   six-of : member (a .kind) sixTypes ≡ true → a .size ≡ 6
   unfolding misfitOf
-  six-of h = eqb-true _ _ (not-true _ (and-first _ _ h (or-left _ (member (a .kind) filledTypes && eqb (a .size) 2) (fails misfitting (attributes s) misfit a m))))
+  six-of h = eqb-true _ _ (not-false _ (and-first _ _ h (neither _ (member (a .kind) filledTypes && eqb (a .size) 2) (fails misfitting (attributes s) misfit a m) .0)))
 
 -- the first of a type that must have length 6 has it
 pub first-six : (s : List ℕ) (k : ℕ) (a : Attribute) → any misfitting (attributes s) ≡ false → firstOf (kindIs k) (attributes s) ≡ At a → member k sixTypes ≡ true → a .size ≡ 6
@@ -71,11 +60,11 @@ first-six s k a misfit e h =
 module _ (code address : ℕ) (name s : List ℕ) (q : causeOf code address name s ≡ C.NoCause) where
   pub repeated : found (firstRepeated none (attributes s)) ≡ false
   unfolding invalid
-  repeated = or-left _ (any misfitting (attributes s)) (exactly C.NoCause code address name s .0 q .2)
+  repeated = neither _ (any misfitting (attributes s)) (exactly C.NoCause code address name s .0 q .2) .0
 
   pub misfit : any misfitting (attributes s) ≡ false
   unfolding invalid
-  misfit = or-right (found (firstRepeated none (attributes s))) _ (exactly C.NoCause code address name s .0 q .2)
+  misfit = neither (found (firstRepeated none (attributes s))) _ (exactly C.NoCause code address name s .0 q .2) .1
 
   -- every type but 33 stands at most once
   pub once : (k : ℕ) → (k ≡ 33 → ⊥) → countOf (kindIs k) (attributes s) ≤ 1

@@ -1,7 +1,7 @@
 -- The walk over the criteria of a request: those that are left decide the answer, and one that fails decides at once.
 -- Assumes nothing.
-use mathlib.Core.Path.{_≡_, refl, sym, _∙_}
-use mathlib.Core.Bool.{Bool, true, false, not, _&&_, and-false}
+use mathlib.Core.Path.{_≡_, sym, _∙_}
+use mathlib.Core.Bool.{Bool, true, false, not, _&&_, and-false, and-true}
 use mathlib.Core.List.{List, [], _∷_, map}
 use Prim.Native.Nat.{ℕ, zero, suc, _+_, _≤_, _<_}
 use native.Mathlib.Numerals.{add-one}
@@ -42,10 +42,6 @@ step : (f : Criterion → Bool) (c : Criteria) (i : ℕ) (d : Criterion) → i <
 step f c i d h =
     let g : i < c .count = omega (arith, length-take (c .count) (c .list)) in
     rw (add-one, drop-cons (listed c) i d h, getD-take (c .count) (c .list) i d g)
-
-and-true : (a : Bool) → a && true ≡ a
-and-true true = refl
-and-true false = refl
 
 -- n criteria, of which those from i on are left; b is the whole answer
 module _ (p s : List ℕ) (c : Criteria) (b : Bool) (i n : ℕ) (left : b ≡ live s && all (meets p s) (drop i (listed c))) (long : n ≡ length (listed c)) where

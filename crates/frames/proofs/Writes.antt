@@ -1,41 +1,26 @@
--- Writes beside and over one another: two that do not meet may change places, and a later one of the same place and length hides the earlier.
+-- Writes beside and over one another: two side by side are one write, and a later one of the same place and length hides the earlier.
 -- Each goes by the single stores. Assumes nothing.
 use mathlib.Core.Path.{_≡_, refl, sym, ap, _∙_}
 use mathlib.Core.List.{List, [], _∷_, _++_}
-use Prim.Native.Nat.{ℕ, suc, _+_, _≤_, _<_}
+use Prim.Native.Nat.{ℕ, suc, _+_, _≤_}
 use native.Mathlib.Omega.{arith}
 use lib.ListN.{length, set, length-set, length-append}
-use lib.Seq.{sets, set-set, set-comm}
+use lib.Seq.{sets, set-set}
 use Rattle.octets.specs.Runs.{write}
-use Rattle.octets.proofs.Write.{write-append, write-cons, write-then, write-long}
-
-set-after : (vs l : List ℕ) (i j a : ℕ) → i < j → sets (set l i a) j vs ≡ set (sets l j vs) i a
-set-after [] l i j a h = refl
-set-after (b ∷ vs) l i j a h =
-    ap (λ (t : List ℕ). sets t (suc j) vs) (set-comm l i j a b (λ e. omega arith)) ∙ set-after vs (set l j b) i (suc j) a (omega arith)
-
-sets-swap : (vs ws l : List ℕ) (i j : ℕ) → i + length vs ≤ j → sets (sets l j ws) i vs ≡ sets (sets l i vs) j ws
-sets-swap [] ws l i j h = refl
-sets-swap (a ∷ vs) ws l i j h =
-    ap (λ (t : List ℕ). sets t (suc i) vs) (sym (set-after ws l i j a (omega arith))) ∙ sets-swap vs ws (set l i a) (suc i) j (omega arith)
+use Rattle.octets.proofs.Write.{set-before, write-apart, write-append, write-cons, write-then, write-long}
 
 sets-over : (vs ws l : List ℕ) (i : ℕ) → length vs ≡ length ws → sets (sets l i vs) i ws ≡ sets l i ws
 sets-over [] [] l i h = refl
 sets-over [] (b ∷ ws) l i h = absurd (omega arith)
 sets-over (a ∷ vs) [] l i h = absurd (omega arith)
 sets-over (a ∷ vs) (b ∷ ws) l i h =
-    ap (λ (t : List ℕ). sets t (suc i) ws) (sym (set-after vs (set l i a) i (suc i) b (omega arith)) ∙ ap (λ (t : List ℕ). sets t (suc i) vs) (set-set l i a b))
+    ap (λ (t : List ℕ). sets t (suc i) ws) (set-before vs (set l i a) i (suc i) b (omega arith) ∙ ap (λ (t : List ℕ). sets t (suc i) vs) (set-set l i a b))
     ∙ sets-over vs ws (set l i b) (suc i) (omega arith)
-
--- two writes that do not meet
-pub write-swap : (l : List ℕ) (i j : ℕ) (vs ws : List ℕ) → i + length vs ≤ j → write (write l j ws) i vs ≡ write (write l i vs) j ws
-unfolding write
-write-swap l i j vs ws h = sets-swap vs ws l i j h
 
 -- a second write, right before the first
 pub write-before : (t t′ l : List ℕ) (i j : ℕ) (vs ws : List ℕ) → t ≡ write l j ws → t′ ≡ write t i vs → j ≡ i + length vs → t′ ≡ write l i (vs ++ ws)
 write-before t t′ l i j vs ws e g h =
-    g ∙ ap (λ (x : List ℕ). write x i vs) e ∙ write-swap l i j vs ws (omega arith)
+    g ∙ ap (λ (x : List ℕ). write x i vs) e ∙ write-apart l i j vs ws (omega arith)
     ∙ ap (λ (k : ℕ). write (write l i vs) k ws) h ∙ sym (write-append l i vs ws)
 
 -- a second write in the place of the end of the first
@@ -52,7 +37,7 @@ write-middle l i j x v w y h e =
     let m : i + length (x ++ v) ≡ i + length (x ++ w) = simp length-append (omega arith) in
     let far : j + length w ≤ i + length (x ++ v) = simp length-append (omega arith) in
     ap (λ (t : List ℕ). write t j w) (write-append l i (x ++ v) y)
-    ∙ write-swap (write l i (x ++ v)) j (i + length (x ++ v)) w y far
+    ∙ write-apart (write l i (x ++ v)) j (i + length (x ++ v)) w y far
     ∙ ap (λ (t : List ℕ). write t (i + length (x ++ v)) y) (write-last l i j x v w h e)
     ∙ ap (λ (k : ℕ). write (write l i (x ++ w)) k y) m
     ∙ sym (write-append l i (x ++ w) y)

@@ -1,13 +1,14 @@
 -- What D5 and D6 leave of types 80 and 55 is what the reply's length asks: a usable stamp has length 6, and a type 80 that is right has length 18.
 -- Assumes nothing.
 use mathlib.Core.Path.{_≡_, refl, sym, _∙_}
-use mathlib.Core.Bool.{Bool, true, false, cond, not, _||_, false≢true}
+use mathlib.Core.Bool.{Bool, true, false, cond, false≢true}
 use mathlib.Core.List.{List}
 use Prim.Native.Nat.{ℕ, _+_, _≤_}
 use native.Mathlib.Omega.{arith}
 use borrow.Author.Tests.{eqb-true, ltb-false}
 use lib.Dec.{eqb}
 use Rattle.octets.specs.Numbers.{be}
+use Rattle.octets.proofs.Bools.{neither, not-false}
 use Rattle.attributes.specs.declared.Attribute.{Attribute}
 use Rattle.attributes.specs.declared.Search.{Search}
 use Rattle.attributes.specs.declared.Search.the-variants.{At, Missing}
@@ -42,14 +43,6 @@ unfolding stampOf
 stamp-six s v h = six-once s (eqb (countOf (kindIs 55) (attributes s)) 1) v h
 
 -- D5
-neither : (a b : Bool) → (a || b) ≡ false → (a ≡ false) × (b ≡ false)
-neither true b h = absurd (false≢true (sym h))
-neither false b h = (refl, h)
-
-not-false : (b : Bool) → not b ≡ false → b ≡ true
-not-false true h = refl
-not-false false h = absurd (false≢true (sym h))
-
 right-size : (auth secret p : List ℕ) (x : Search) → onFirst (wrongMac auth secret p) x ≡ false → found x ≡ true → sizeOf x ≡ 18
 unfolding wrongMac
 right-size auth secret p (At a) h g = eqb-true (a .size) 18 (not-false (eqb (a .size) 18) (neither _ _ h .0))

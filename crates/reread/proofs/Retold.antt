@@ -8,6 +8,7 @@ use native.Mathlib.Omega.{arith}
 use borrow.Author.Tests.{eq-eqb, eqb-true}
 use lib.Dec.{eqb}
 use lib.ListN.{length}
+use Rattle.octets.proofs.Equality.{and-both}
 use Rattle.attributes.specs.Attributes.{attributes, any}
 use Rattle.survey.specs.declared.Flags.{Flags}
 use Rattle.survey.specs.Survey.{Surveyed}
@@ -27,10 +28,6 @@ use Rattle.reread.specs.declared.Again.the-variants.{Gone, Held}
 use Rattle.reread.specs.Again.{Stands, Told}
 use Rattle.reread.proofs.Rereading.{none-applies}
 
-both : (a b : Bool) → (a && b) ≡ true → (a ≡ true) × (b ≡ true)
-both true b h = (refl, h)
-both false b h = absurd (false≢true h)
-
 not-true : (b : Bool) → not b ≡ true → b ≡ false
 not-true true h = absurd (false≢true h)
 not-true false h = refl
@@ -40,7 +37,7 @@ not-true false h = refl
 module _ (n : ℕ) (q : List ℕ) (b : Bool) (is : b ≡ holds n q) (h : b ≡ true) where
   tests : (eqb (formOf q) 0 ≡ true) × (eqb (lengthOf q) n ≡ true)
   unfolding holds
-  tests = both _ _ (sym is ∙ h)
+  tests = and-both _ _ (sym is ∙ h)
 
   pub held-form : formOf q ≡ 0
   held-form = eqb-true _ _ (tests .0)
@@ -83,7 +80,7 @@ module _ (name s q : List ℕ) (address n : ℕ) (f : Flags) (count ends sizes :
 
     stands : Surveyed s (codeOf q) f count ends sizes → b ≡ true → Stands n q v f count ends sizes
     stands i h =
-        let two = both _ _ (sym is ∙ h) in
+        let two = and-both _ _ (sym is ∙ h) in
         let none : causeOf (codeOf q) address name s ≡ NoCause = none-applies _ (not-true _ (two .1)) in
         record {
           sized = sized;

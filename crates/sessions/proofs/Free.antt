@@ -1,7 +1,7 @@
 -- The walks that a new session asks for: to a live slot with its Acct-Session-Id, and to the lowest free slot.
 -- Assumes nothing.
 use mathlib.Core.Path.{_≡_, refl, sym, ap, _∙_}
-use mathlib.Core.Bool.{Bool, true, false, not, _&&_, _||_, cond}
+use mathlib.Core.Bool.{Bool, true, false, not, _&&_, cond, or-true}
 use mathlib.Core.List.{List}
 use mathlib.Core.Logic.{⊎-elim}
 use Prim.Native.Nat.{ℕ, zero, suc, _+_, _*_, _-_, _≤_, _<_}
@@ -29,10 +29,6 @@ module _ (id t s : List ℕ) (k : ℕ) (r : Bool) (e : r ≡ live s) (here : s �
 pub id-none : (id t : List ℕ) → false ≡ idLive id t 0
 unfolding idLive
 id-none id t = refl
-
-or-true : (a : Bool) → a || true ≡ true
-or-true true = refl
-or-true false = refl
 
 found-by : (id t : List ℕ) (k n : ℕ) → k < n → live (slot k t) && equalBytes id (sessionId (slot k t)) ≡ true → idLive id t n ≡ true
 unfolding idLive

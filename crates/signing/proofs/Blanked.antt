@@ -7,10 +7,10 @@ use native.Mathlib.Omega.{arith}
 use lib.ListN.{length, take, drop, replicate, length-append, length-take, length-drop}
 use lib.Seq.{take-append-add, drop-append-add, take-take, drop-drop}
 use Rattle.octets.specs.Runs.{part, write}
-use Rattle.octets.proofs.Part.{part-before, part-behind}
+use Rattle.octets.proofs.Part.{drop-take, part-before, part-behind}
 use Rattle.octets.proofs.Write.{length-write}
 use Rattle.signing.specs.Signing.{zeros, withAuth, blanked, messageAuthenticator}
-use Rattle.signing.proofs.Messages.{between, drop-take}
+use Rattle.signing.proofs.Messages.{between}
 
 -- what comes before the attributes
 abbrev pub front : List ℕ → List ℕ → List ℕ

@@ -1,12 +1,11 @@
 -- The messages under the signatures: their lengths, and what they do not look at. They take bytes 0 to 3 and those from 20 up to Length,
 -- so two packets that agree there have the same signatures, whatever stands in the authenticator's place or behind Length. Assumes nothing.
 use mathlib.Core.Path.{_≡_, refl, sym, ap, _∙_}
-use mathlib.Core.List.{List, [], _∷_}
-use Prim.Native.Nat.{ℕ, zero, suc, _+_, _-_, _≤_}
-use native.Mathlib.Nat.{sub-zero}
+use mathlib.Core.List.{List}
+use Prim.Native.Nat.{ℕ, _+_, _-_, _≤_}
 use native.Mathlib.Omega.{arith}
 use lib.ListN.{length, take, drop, length-append, length-take, length-drop}
-use lib.Seq.{take-nil, take-take}
+use lib.Seq.{take-take}
 use Rattle.md5.proofs.After.{length-md5}
 use Rattle.hmac.proofs.Runs.{length-hmac}
 use Rattle.signing.specs.Signing.{zeros, withAuth, signed, authenticator, messageAuthenticator}
@@ -14,12 +13,6 @@ use Rattle.signing.specs.Signing.{zeros, withAuth, signed, authenticator
 -- the bytes of m from i to e
 abbrev pub between : ℕ → ℕ → List ℕ → List ℕ
 between i e m = take (e - i) (drop i m)
-
-pub drop-take : (i n : ℕ) (l : List ℕ) → drop i (take n l) ≡ between i n l
-drop-take zero n l = rw sub-zero
-drop-take (suc i) zero l = let e : 0 - suc i ≡ 0 = omega arith in rw e
-drop-take (suc i) (suc n) [] = sym (take-nil (suc n - suc i))
-drop-take (suc i) (suc n) (x ∷ l) = let e : suc n - suc i ≡ n - i = omega arith in rw e (drop-take i n l)
 
 pub length-zeros : length zeros ≡ 16
 unfolding zeros

@@ -7,14 +7,14 @@ use native.Mathlib.Omega.{arith}
 use lib.ListN.{length, take, length-take}
 use lib.Seq.{take-all}
 use Rattle.octets.specs.Runs.{part, write, equalBytes}
-use Rattle.octets.proofs.Part.{part-whole}
+use Rattle.octets.proofs.Part.{part-whole, drop-take}
 use Rattle.octets.proofs.Write.{write-then}
 use Rattle.md5.specs.declared.State.{State}
 use Rattle.md5.specs.Md5.{initial, md5}
 use Rattle.digest.specs.Held.{Held}
 use Rattle.digest.proofs.Pieces.{held-as, held-none, held-short}
 use Rattle.signing.specs.Signing.{withAuth, signed, authenticator}
-use Rattle.signing.proofs.Messages.{between, drop-take}
+use Rattle.signing.proofs.Messages.{between}
 use Rattle.signing.proofs.Blanked.{front, length-front, length-between}
 
 -- a call of `update` with the piece s
