@@ -21,6 +21,7 @@ use Rattle.settings.specs.Settings.{Settings}
 use Rattle.packets.specs.Discards.{formOf, badLength, badCode, badAttributes}
 use Rattle.macs.specs.Discards.{badMac}
 use Rattle.rules.specs.Verdict.{applies, nakOr, freshVerdict, stampVerdict, checkVerdict, verdictOf}
+use Rattle.demands.proofs.Cascades.{or-right, none-of, one-more}
 
 -- the number of a discard is one of these
 abbrev pub Among : List ℕ → R.Verdict → Type 0
@@ -29,15 +30,9 @@ Among l (J.Stale k) = Unit {0}
 Among l (J.Nak c k) = Unit {0}
 Among l (J.Passed k) = Unit {0}
 
-one-form : (x y z : Bool) → (_≡_ {A = ℕ} (cond x 1 (cond y 2 (cond z 3 0))) 0 → ⊥) → member (cond x 1 (cond y 2 (cond z 3 0))) (1 ∷ 2 ∷ 3 ∷ []) ≡ true
-one-form true y z h = refl
-one-form false true z h = refl
-one-form false false true h = refl
-one-form false false false h = absurd (h refl)
-
 pub form-one : (p : List ℕ) → (formOf p ≡ 0 → ⊥) → member (formOf p) (1 ∷ 2 ∷ 3 ∷ []) ≡ true
 unfolding formOf
-form-one p h = one-form (badLength p) (badCode p) (badAttributes p) h
+form-one p = one-more 1 (badLength p) _ _ (one-more 2 (badCode p) _ _ (one-more 3 (badAttributes p) _ _ none-of)) .found
 
 by-cause : (l : List ℕ) (k : ℤ) (c : Cause) (b : Bool) → Among l (cond b (J.Nak c k) (J.Passed k))
 by-cause l k c true = tt
@@ -66,10 +61,6 @@ module _ (g : Settings) (p : List ℕ) (clock : ℕ) where
   check-among false = refl
 
 -- 1 to 3, and 4 to 6, are among 1 to 6
-pub or-right : (a b : Bool) → b ≡ true → (a || b) ≡ true
-or-right true b h = refl
-or-right false b h = h
-
 or-more : (a b c d : Bool) → (a || (b || (c || false))) ≡ true → (a || (b || (c || d))) ≡ true
 or-more true b c d h = refl
 or-more false true c d h = refl

@@ -18,6 +18,7 @@ use Rattle.reply_check.specs.declared.Checked.the-variants.{Right, Failed, NotC
 use Rattle.requests.specs.Writer.{Draft, badGiven, writeRefusal, requestLength, requestOf, writeAnswer, writeOutput}
 use Rattle.reply_check.specs.ReplyCheck.{failureOf, checkAnswer}
 use Rattle.demands.specs.Demand1.{Exchanging}
+use Rattle.demands.proofs.Cascades.{none-of, one-more}
 
 -- what holds of the number of a refusal; of any other answer nothing
 abbrev WhenRefused : (ℕ → Type 0) → W.Written → Type 0
@@ -31,17 +32,15 @@ WhenUnchecked P (NotChecked n) = P n
 
 -- ---- the writer
 
-one-of : (x y z w : Bool) → (_≡_ {A = ℕ} (cond x 2 (cond y 4 (cond z 12 (cond w 13 0)))) 0 → ⊥) → member (cond x 2 (cond y 4 (cond z 12 (cond w 13 0)))) (2 ∷ 4 ∷ 12 ∷ 13 ∷ []) ≡ true
-one-of true y z w h = refl
-one-of false true z w h = refl
-one-of false false true w h = refl
-one-of false false false true h = refl
-one-of false false false false h = absurd (h refl)
-
 module _ (secret out : List ℕ) (d : Draft) where
   refusal-one : (writeRefusal secret out d ≡ 0 → ⊥) → member (writeRefusal secret out d) (2 ∷ 4 ∷ 12 ∷ 13 ∷ []) ≡ true
   unfolding writeRefusal
-  refusal-one h = one-of (badSecret secret) (ltb (length out) 4096) (not (eqb (d .code) 40 || eqb (d .code) 43)) (badGiven d) h
+  refusal-one =
+      one-more 2 (badSecret secret) _ _
+      (one-more 4 (ltb (length out) 4096) _ _
+      (one-more 12 (not (eqb (d .code) 40 || eqb (d .code) 43)) _ _
+      (one-more 13 (badGiven d) _ _ none-of)))
+      .found
 
   -- o is the output after it
   abbrev Unwritten : List ℕ → ℕ → Type 0

@@ -26,6 +26,7 @@ use Rattle.answers.specs.Replies.{replyAs}
 use Rattle.handler.specs.Refusals.{refusalOf}
 use Rattle.handler.specs.Handle.{answerOf, tableAs, handleAnswer, handleTable, handleReply}
 use Rattle.demands.specs.Demand1.{Handling}
+use Rattle.demands.proofs.Cascades.{none-of, one-more}
 use Rattle.demands.proofs.Discarding.{Among, verdict-among}
 
 abbrev isRefused : D.Answer → Bool
@@ -78,16 +79,14 @@ is-number : (p t : List ℕ) (x : R.Verdict) (r n : ℕ) (b : Bool) → eqb r 0 
 is-number p t x r n true h e = absurd (false≢true (sym (none-refused p t x) ∙ ap isRefused e))
 is-number p t x r n false h e = (sym (ap refusedAs e), eqb-false _ _ h)
 
-one-of : (x y z w : Bool) → (_≡_ {A = ℕ} (cond x 1 (cond y 2 (cond z 3 (cond w 4 0)))) 0 → ⊥) → member (cond x 1 (cond y 2 (cond z 3 (cond w 4 0)))) (1 ∷ 2 ∷ 3 ∷ 4 ∷ []) ≡ true
-one-of true y z w h = refl
-one-of false true z w h = refl
-one-of false false true w h = refl
-one-of false false false true h = refl
-one-of false false false false h = absurd (h refl)
-
 refusal-one : (g : Settings) (t b : List ℕ) → (refusalOf g t b ≡ 0 → ⊥) → member (refusalOf g t b) (1 ∷ 2 ∷ 3 ∷ 4 ∷ []) ≡ true
 unfolding refusalOf
-refusal-one g t b h = one-of (eqb (slotCount t) 0) (badSecret (g .secret)) (badName (g .name)) (ltb (length b) 4096) h
+refusal-one g t b =
+    one-more 1 (eqb (slotCount t) 0) _ _
+    (one-more 2 (badSecret (g .secret)) _ _
+    (one-more 3 (badName (g .name)) _ _
+    (one-more 4 (ltb (length b) 4096) _ _ none-of)))
+    .found
 
 -- ---- discarded
 

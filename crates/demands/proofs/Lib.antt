@@ -1,3 +1,4 @@
+pub mod Cascades
 pub mod Discarding
 pub mod Handled
 pub mod Replied

@@ -16,17 +16,13 @@ use Rattle.scheduler.specs.declared.Outcome.the-variants as O
 use Rattle.scheduler.specs.Scheduler.{openAt, lowestFree}
 use Rattle.scheduler.specs.Refusals.{openRefusal}
 use Rattle.scheduler.specs.Calls.{called, openCalled, openStore}
+use Rattle.demands.proofs.Cascades.{none-of, one-more}
 use Rattle.demands.proofs.Discarding.{form-one}
 use Rattle.demands.proofs.Telling.{WhenRefused, WhenDiscarded}
 
-one-of : (x y : Bool) → (_≡_ {A = ℕ} (cond x 5 (cond y 6 0)) 0 → ⊥) → member (cond x 5 (cond y 6 0)) (5 ∷ 6 ∷ []) ≡ true
-one-of true y h = refl
-one-of false true h = refl
-one-of false false h = absurd (h refl)
-
 refusal-one : (f : ℕ → Bool) (size : ℕ) → (openRefusal f size ≡ 0 → ⊥) → member (openRefusal f size) (5 ∷ 6 ∷ []) ≡ true
 unfolding openRefusal
-refusal-one f size h = one-of (not (eqb size 16384)) (eqb (lowestFree f) 4) h
+refusal-one f size = one-more 5 (not (eqb size 16384)) _ _ (one-more 6 (eqb (lowestFree f) 4) _ _ none-of) .found
 
 module _ (s : D.Scheduler) (p store : List ℕ) where
   abbrev number : ℕ

@@ -35,7 +35,8 @@ use Rattle.jobs.specs.Job.{freeJob}
 use Rattle.reread.specs.Reread.{holds, holdsPassed}
 use Rattle.jobs.specs.Moves.{going, done, checkedAs, checkMove, matchJob, skewAt, commitMove, slotMove, slotTable, movedAt, moved, movedTableAt, movedTable}
 use Rattle.demands.specs.Demand1.{ComesTo}
-use Rattle.demands.proofs.Discarding.{Among, or-right, check-among}
+use Rattle.demands.proofs.Cascades.{or-right}
+use Rattle.demands.proofs.Discarding.{Among, check-among}
 
 -- C says what the step comes to; x and u are the job and the table after it, t the table before
 abbrev pub QuitBy : (D.Answer → Type 0) → B.Job → List ℕ → List ℕ → D.Answer → Type 0

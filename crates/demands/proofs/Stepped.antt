@@ -24,19 +24,18 @@ use Rattle.scheduler.specs.Scheduler.{settingsOf, jobAt, openAt, withJob, partO
 use Rattle.scheduler.specs.Refusals.{stepRefusal, dropRefusal}
 use Rattle.scheduler.specs.Calls.{called, steppedAs, movedOf, stepCalled, stepTable, stepReply}
 use Rattle.demands.specs.Demand1.{Comes}
+use Rattle.demands.proofs.Cascades.{none-of, one-more}
 use Rattle.demands.proofs.Telling.{WhenRefused, WhenDone}
 use Rattle.demands.proofs.Quitting.{QuitAs, move-quits, move-ends}
 
-one-of : (x y z w : Bool) → (_≡_ {A = ℕ} (cond x 1 (cond y 4 (cond z 5 (cond w 7 0)))) 0 → ⊥) → member (cond x 1 (cond y 4 (cond z 5 (cond w 7 0)))) (1 ∷ 4 ∷ 5 ∷ 7 ∷ []) ≡ true
-one-of true y z w h = refl
-one-of false true z w h = refl
-one-of false false true w h = refl
-one-of false false false true h = refl
-one-of false false false false h = absurd (h refl)
-
 refusal-one : (f : ℕ → Bool) (size j : ℕ) (t b : List ℕ) → (stepRefusal f size j t b ≡ 0 → ⊥) → member (stepRefusal f size j t b) (1 ∷ 4 ∷ 5 ∷ 7 ∷ []) ≡ true
 unfolding stepRefusal dropRefusal
-refusal-one f size j t b h = one-of (eqb (slotCount t) 0) (ltb (length b) 4096) (not (eqb size 16384)) (ltb 3 j || not (f j)) h
+refusal-one f size j t b =
+    one-more 1 (eqb (slotCount t) 0) _ _
+    (one-more 4 (ltb (length b) 4096) _ _
+    (one-more 5 (not (eqb size 16384)) _ _
+    (one-more 7 (ltb 3 j || not (f j)) _ _ none-of)))
+    .found
 
 module _ (s : D.Scheduler) (t b store : List ℕ) (j : ℕ) where
   abbrev number : ℕ

@@ -2,13 +2,14 @@
 -- buffer passed at the step, secret and identity when the scheduler was made.
 -- Assumes nothing.
 use mathlib.Core.Path.{_≡_, refl}
-use mathlib.Core.Bool.{Bool, true, false, cond, not, _||_, true≢false}
+use mathlib.Core.Bool.{Bool, true, false, cond, not, _||_}
 use mathlib.Core.List.{List}
 use Prim.Native.Nat.{ℕ, suc, _<_}
 use native.Mathlib.Omega.{arith}
 use borrow.Author.Tests.{eqb-true, eqb-false}
 use lib.Dec.{eqb, ltb}
 use lib.ListN.{length}
+use Rattle.octets.proofs.Bools.{neither, not-false}
 use Rattle.slots.specs.Slot.{slotCount}
 use Rattle.settings.specs.Settings.{Settings}
 use Rattle.handler.specs.Refusals.{refusalOf}
@@ -20,14 +21,6 @@ use Rattle.serial.proofs.Tying.{Made}
 passes : (f : Bool) (n a : ℕ) → cond f (suc n) a ≡ 0 → (f ≡ false) × (a ≡ 0)
 passes true n a e = absurd (omega arith)
 passes false n a e = (refl, e)
-
-not-false : (f : Bool) → not f ≡ false → f ≡ true
-not-false true e = refl
-not-false false e = absurd (true≢false e)
-
-second : (a b : Bool) → (a || b) ≡ false → b ≡ false
-second true b e = absurd (true≢false e)
-second false b e = e
 
 -- a step; f tells which jobs are open
 pub record Admitted (f : ℕ → Bool) (size j : ℕ) (t b : List ℕ) : Type 0 where
@@ -48,12 +41,12 @@ module _ (f : ℕ → Bool) (size : ℕ) where
         slots = first .0;
         room = fourth .0;
         size-is = eqb-true size 16384 (not-false (eqb size 16384) (fifth .0));
-        open-is = not-false (f j) (second (ltb 3 j) (not (f j)) (seventh .0));
+        open-is = not-false (f j) (neither (ltb 3 j) (not (f j)) (seventh .0) .1);
       }
 
   pub drop-admitted : (j : ℕ) → dropRefusal f j ≡ 0 → f j ≡ true
   unfolding dropRefusal
-  drop-admitted j e = not-false (f j) (second (ltb 3 j) (not (f j)) (passes (ltb 3 j || not (f j)) 6 0 e .0))
+  drop-admitted j e = not-false (f j) (neither (ltb 3 j) (not (f j)) (passes (ltb 3 j || not (f j)) 6 0 e .0) .1)
 
   -- opening takes a job of the four
   below : (a b c d : Bool) (n : ℕ) → n ≡ cond a (cond b (cond c (cond d 4 3) 2) 1) 0 → (n ≡ 4 → ⊥) → n < 4

@@ -2,13 +2,14 @@
 -- the stamp is usable, and the skew is that of the stamp; none of causes 1 to 6 applies.
 -- Assumes nothing.
 use mathlib.Core.Path.{_≡_, refl, sym, _∙_}
-use mathlib.Core.Bool.{Bool, true, false, not, _||_, false≢true}
+use mathlib.Core.Bool.{Bool, true, false, not}
 use mathlib.Core.List.{List}
 use Prim.Native.Nat.{ℕ, _≤_}
 use native.Mathlib.Omega.{arith}
 use borrow.Author.Tests.{eq-eqb, ltb-false}
 use lib.Dec.{eqb}
 use lib.IntN.{ℤ}
+use Rattle.octets.proofs.Bools.{neither}
 use Rattle.attributes.specs.declared.Search.{Search}
 use Rattle.attributes.specs.declared.Search.the-variants.{At, Missing}
 use Rattle.attributes.specs.Attributes.{attributes, any, found, firstOf, onFirst, countOf, kindIs}
@@ -37,10 +38,6 @@ pub record Passing (g : Settings) (signed : Bool) (p : List ℕ) (clock : ℕ) :
 
 -- ---- D5
 
-first-half : (a b : Bool) → (a || b) ≡ false → a ≡ false
-first-half true b h = absurd (false≢true (sym h))
-first-half false b h = refl
-
 odd-first : (x : Search) → (found x ≡ true → sizeOf x ≡ 18) → onFirst (λ a. not (eqb (a .size) 18)) x ≡ false
 odd-first (At a) h = rw (eq-eqb (a .size) 18 (h refl))
 odd-first Missing h = refl
@@ -48,7 +45,7 @@ odd-first Missing h = refl
 no-odd : (secret p : List ℕ) → badMac zeros secret p ≡ false → any oddMac (attributes (areaOf p)) ≡ false
 unfolding badMac
 no-odd secret p h =
-    let once : countOf (kindIs 80) (attributes (areaOf p)) ≤ 1 = ltb-false 1 (countOf (kindIs 80) (attributes (areaOf p))) (first-half _ _ h) in
+    let once : countOf (kindIs 80) (attributes (areaOf p)) ≤ 1 = ltb-false 1 (countOf (kindIs 80) (attributes (areaOf p))) (neither _ _ h .0) in
     only (kindIs 80) (λ a. not (eqb (a .size) 18)) (attributes (areaOf p)) once
     ∙ odd-first (firstOf (kindIs 80) (attributes (areaOf p))) (mac-eighteen zeros secret p h)
 
