@@ -19,6 +19,13 @@ if [ $# -eq 0 ]; then
     done
 fi
 
+# MD5 is as fast as it is only where the compiler leaves this function by itself (docs/DECISIONS.md, 3). Instructions would not show that it did not.
+for archive in "$1" "$3"; do
+    nm "$archive" | grep -q ' t compression::hash$' && continue
+    echo "bench: $archive has no function compression::hash of its own: the compiler has put it into its callers, and MD5 takes a quarter more time" >&2
+    exit 1
+done
+
 # -z now, so that no call counts the search for a symbol.
 built() { # PROGRAM WORD...: of these sources and archives
     program=$1

@@ -2,7 +2,8 @@
 ghost use mathlib.Core.Path.{_≡_};
 ghost use Prim.Native.Nat.{_/_};
 ghost use lib.ListN.{length};
-ghost use Rattle.md5.specs.Md5.{addState, md5Block, after};
+ghost use Rattle.md5.specs.Md5.{initial, addState, md5Block, after};
+ghost use Rattle.md5.specs.Steps.{InPlace};
 use md5::State;
 
 // Each word of p plus that of q.
@@ -17,28 +18,49 @@ fn add_state(p: State, q: State) -> State
     }
 }
 
-// The words after one block. It has one caller, so that the compiler puts it there.
-fn block(q: State, m: &[u8]) -> State
-    requires { ⌜ length (now m) ≡ 64 ⌝ }
+// The words after one block; t has the constants, w is lent for the sums.
+fn block(q: State, w: &mut [u32], t: &[u32; 64], m: &[u8]) -> State
+    requires { ⌜ (length (now w) ≡ 64) × (length (now m) ≡ 64) × InPlace (now t) ⌝ }
     ensures { λ r. ⌜ r ≡ md5Block q (now (m .entry)) ⌝ }
 {
-    let r = md5::rounds::first(q, m);
-    let r = md5::rounds::second(r, m);
-    let r = md5::rounds::third(r, m);
-    let r = md5::rounds::fourth(r, m);
+    let x = md5::sums::words(m);
+    md5::sums::put(&mut *w, t, &x);
+    let r = md5::rounds::all(q, &*w);
     add_state(q, r)
 }
 
-// The words after the whole blocks of m; bytes behind the last whole block are not looked at.
-pub fn blocks(q: State, m: &[u8]) -> State
+// The words after the whole blocks of m; w is lent for the sums of a block. This has two callers, so the compiler keeps it a function of its own and
+// the sums in memory, where they are made four at a time before the rounds. Inlined, it would add each constant last, and every operation waits for it.
+fn hash(q: State, w: &mut [u32], m: &[u8]) -> State
+    requires { ⌜ length (now w) ≡ 64 ⌝ }
     ensures { λ r. ⌜ r ≡ after q (length (now (m .entry)) / 64) (now (m .entry)) ⌝ }
 {
+    let t = md5::sums::constants();
     let mut r = q;
     let mut at = 0;
     while 64 <= m.len() - at {
         let e = at + 64;
-        r = block(r, &m[at..e]);
+        r = block(r, &mut *w, &t, &m[at..e]);
         at = e;
     }
     r
+}
+
+// The words after the whole blocks of m; bytes behind the last whole block are not looked at. Where there is no block no memory is set up.
+pub fn blocks(q: State, m: &[u8]) -> State
+    ensures { λ r. ⌜ r ≡ after q (length (now (m .entry)) / 64) (now (m .entry)) ⌝ }
+{
+    if m.len() < 64 {
+        return q;
+    }
+    let mut w = [0u32; 64];
+    hash(q, &mut w, m)
+}
+
+// The same, from the initial words on.
+pub fn first(m: &[u8]) -> State
+    ensures { λ r. ⌜ r ≡ after initial (length (now (m .entry)) / 64) (now (m .entry)) ⌝ }
+{
+    let mut w = [0u32; 64];
+    hash(md5::initial(), &mut w, m)
 }

@@ -14,10 +14,10 @@ use Rattle.hmac.specs.Hmac.{shortKey, keyPad, innerPad, outerPad, hmac}
 use Rattle.hmac.proofs.Keys.{length-keyPad, short-long, short-same, length-shortKey}
 
 module _ (c : ℕ) (k : List ℕ) where
-  pub keyed-block : (b : List ℕ) (q r : State) → b ≡ keyPad c k → q ≡ initial → r ≡ after q (length b / 64) b → length k ≤ 64 → r ≡ after initial 1 (keyPad c k)
-  keyed-block b q r e i g h =
+  pub keyed-block : (b : List ℕ) (r : State) → b ≡ keyPad c k → r ≡ after initial (length b / 64) b → length k ≤ 64 → r ≡ after initial 1 (keyPad c k)
+  keyed-block b r e g h =
       let one : length b / 64 ≡ 1 = rw (e, length-keyPad c k h) in
-      g ∙ rw (one, i, e)
+      g ∙ rw (one, e)
 
   pub keyed-long : (h : List ℕ) (r : State) → h ≡ md5 k → r ≡ after initial 1 (keyPad c h) → 64 < length k → r ≡ after initial 1 (keyPad c (shortKey k))
   keyed-long h r e g l = g ∙ rw (e, ← (short-long k l))

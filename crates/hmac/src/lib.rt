@@ -28,7 +28,7 @@ fn keyed_short(key: &[u8], c: u8) -> State
     ensures { λ r. ⌜ r ≡ after initial 1 (keyPad c (now (key .entry))) ⌝ }
 {
     let b = key_block(key, c);
-    compression::blocks(md5::initial(), &b)
+    compression::first(&b)
 }
 
 // The words after the key's block.

@@ -40,6 +40,10 @@ pub after-last : (q r : State) (at : ℕ) (m : List ℕ) → r ≡ after q (at /
     → r ≡ after q (length m / 64) m
 after-last q r at m e h l z = let ek : length m / 64 ≡ at / 64 = omega arith in rw (e, ek)
 
+-- there is none
+pub after-none : (q : State) (m : List ℕ) → length m < 64 → q ≡ after q (length m / 64) m
+after-none q m h = let e : length m / 64 ≡ 0 = omega arith in rw e
+
 pub length-padding : (n : ℕ) → length (padding n) ≡ (119 - n % 64) % 64 + 9
 length-padding n = simp (length-append, length-replicate) (omega arith)
 

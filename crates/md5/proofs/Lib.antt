@@ -1,3 +1,4 @@
 mod Choose
+mod Filled
 pub mod Chain
 pub mod After

@@ -1,7 +1,8 @@
 // MD5 (RFC 1321): the words, and the 64 operations on a block.
 pub mod words; // words.rt: sums, rotations and the words of a block
+pub mod sums; // sums.rt: the words of a block with their constants
 mod steps; // steps.rt: one operation of the 64
-pub mod rounds; // rounds.rt: the four rounds, with their constants
+pub mod rounds; // rounds.rt: the four rounds
 
 ghost use mathlib.Core.Path.{_≡_};
 ghost use Rattle.md5.specs.Md5.{initial};

