@@ -35,7 +35,7 @@ def blocks(size):
 
 
 def requests():
-    yield Row("one MD5 block", callgrind.block(), "md5-block", 580, 2, openssl=callgrind.block("openssl"), peers="others 580 to 660")
+    yield Row("one MD5 block", callgrind.block(), "md5-block", 580, openssl=callgrind.block("openssl"), peers="others 580 to 660")
     for kind, size, title, messages, peers, goal, decision in REQUESTS:
         floor = sum(map(blocks, messages)) * callgrind.block()
         openssl = sum(callgrind.digested("openssl", "MD5", message) for message in messages)
