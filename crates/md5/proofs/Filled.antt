@@ -66,11 +66,6 @@ pub length-word : (w t : List ℕ) (x j : ℕ) → length (putWord w t x j) ≡ 
 unfolding putWord
 length-word w t x j = simp length-put
 
-pub in-word : (w w₁ w₂ w₃ w₄ t : List ℕ) (x j : ℕ) → w₁ ≡ putAt w t x j → w₂ ≡ putAt w₁ t x (j + 16) → w₃ ≡ putAt w₂ t x (j + 32)
-    → w₄ ≡ putAt w₃ t x (j + 48) → w₄ ≡ putWord w t x j
-unfolding putWord
-in-word w w₁ w₂ w₃ w₄ t x j e₁ e₂ e₃ e₄ = rw (e₄, e₃, e₂, e₁)
-
 pub put-more : (x t w v : List ℕ) (j : ℕ) → Put x t w j → length w ≡ 64 → j < 16 → v ≡ putWord w t (getD x j 0) j → Put x t v (j + 1)
 unfolding putWord
 put-more x t w v j r l h e =
