@@ -1,5 +1,10 @@
 // The library as C calls it: numbers and byte runs. Nothing is decided here.
-mod scheduling; // scheduling.rt: the scheduler
+mod make; // the scheduler, a call a file: make.rt, open.rt, step.rt, drop.rt, start.rt, end.rt
+mod drop;
+mod end;
+mod open;
+mod start;
+mod step;
 
 ghost use mathlib.Core.Path.{_≡_};
 ghost use mathlib.Core.Bool.{not};

@@ -6,4 +6,6 @@ pub mod Accepting
 pub mod Proved
 pub mod Rereading
 pub mod Lawful
+pub mod Reading
 pub mod Crossing
+pub mod Programs

@@ -1,3 +1,3 @@
 pub mod Corollaries
 pub mod Laws
-pub mod Across
+pub mod FromC

@@ -4,6 +4,7 @@ use Rattle.demands.specs.Demand1.{Demand1}
 use Rattle.demands.proofs.Handled.{handling}
 use Rattle.demands.proofs.Exchanged.{exchanging}
 use Rattle.demands.proofs.Scheduled.{scheduling}
+use Rattle.demands.proofs.Holding.{holding}
 
 pub demand1 : Demand1
-demand1 = record { handling = handling; exchanging = exchanging; scheduling = scheduling }
+demand1 = record { handling = handling; exchanging = exchanging; scheduling = scheduling; holding = holding }

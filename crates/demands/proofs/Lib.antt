@@ -13,4 +13,5 @@ pub mod Stepped
 pub mod Opened
 pub mod Started
 pub mod Scheduled
+pub mod Holding
 pub mod First

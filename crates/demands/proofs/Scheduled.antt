@@ -14,7 +14,6 @@ use Rattle.scheduler.specs.declared.Called as C
 use Rattle.scheduler.specs.declared.Outcome.the-variants as O
 use Rattle.scheduler.specs.Scheduler.{openAt, withJob}
 use Rattle.scheduler.specs.Refusals.{makeRefusal, dropRefusal}
-use Rattle.scheduler.specs.Making.{makeAnswer}
 use Rattle.scheduler.specs.Calls.{called, dropCalled}
 use Rattle.answers.specs.declared.Answer.the-variants as A
 use Rattle.jobs.specs.Job.{freeJob}
@@ -31,13 +30,9 @@ make-by true y = refl
 make-by false true = refl
 make-by false false = refl
 
-make-one : (g : Settings) → member (makeRefusal g) (0 ∷ 2 ∷ 3 ∷ []) ≡ true
+make-refusals : (g : Settings) → member (makeRefusal g) (0 ∷ 2 ∷ 3 ∷ []) ≡ true
 unfolding makeRefusal
-make-one g = make-by (badSecret (g .secret)) (badName (g .name))
-
-make-refusals : (g : Settings) → (makeAnswer g .refusal ≡ makeRefusal g) × (member (makeRefusal g) (0 ∷ 2 ∷ 3 ∷ []) ≡ true)
-unfolding makeAnswer
-make-refusals g = (refl, make-one g)
+make-refusals g = make-by (badSecret (g .secret)) (badName (g .name))
 
 -- ---- dropping
 
@@ -56,7 +51,8 @@ drop-so : (s : D.Scheduler) (j : ℕ) → WhenRefused (Undropped s (dropRefusal 
 unfolding dropCalled dropRefusal
 drop-so s j = drop-by s j (ltb 3 j || not (openAt (s .jobs) j))
 
-drop-refused : (s : D.Scheduler) (j : ℕ) → (dropRefusal (openAt (s .jobs)) j ≡ 0 → ⊥) → dropCalled s j ≡ called s (O.Refused (dropRefusal (openAt (s .jobs)) j))
+drop-refused : (s : D.Scheduler) (j : ℕ) → (dropRefusal (openAt (s .jobs)) j ≡ 0 → ⊥)
+    → dropCalled s j ≡ called s (O.Refused (dropRefusal (openAt (s .jobs)) j))
 unfolding dropCalled
 drop-refused s j h = rw (ne-eqb _ _ h)
 

@@ -38,16 +38,19 @@ use Rattle.scheduler.specs.declared.Scheduler as D
 use Rattle.scheduler.specs.declared.Outcome.the-variants.{Refused, Discarded, Done}
 use Rattle.scheduler.specs.Scheduler.{settingsOf, jobAt, openAt, withJob, partOf}
 use Rattle.scheduler.specs.Refusals.{makeRefusal, openRefusal, stepRefusal, dropRefusal}
-use Rattle.scheduler.specs.Making.{makeAnswer}
+use Rattle.layout.specs.Layout.{Held, schedulerIn}
+use Rattle.layout.specs.Left.{makeLeft, openLeft, stepLeft, dropLeft, startLeft, endLeft}
 use Rattle.scheduler.specs.Calls.{called, openCalled, openStore, stepCalled, stepTable, stepReply, dropCalled, startCalled, endCalled}
 
 -- whole requests
 pub record Handling (g : Settings) (t b p : List ℕ) (clock : ℕ) : Type 0 where
   -- a refusal comes before any judgement of the packet
   pub refused : (refusalOf g t b ≡ 0 → ⊥) → handleAnswer g t b p clock ≡ A.Refused (refusalOf g t b)
-  pub discarded : refusalOf g t b ≡ 0 → (d : ℕ) → verdictOf g (signedBy (g .secret) p) p clock ≡ J.Discarded d → handleAnswer g t b p clock ≡ A.Discarded d
+  pub discarded : refusalOf g t b ≡ 0 → (d : ℕ) → verdictOf g (signedBy (g .secret) p) p clock ≡ J.Discarded d
+      → handleAnswer g t b p clock ≡ A.Discarded d
   -- D6 with a usable stamp
-  pub found-stale : refusalOf g t b ≡ 0 → (skew : ℤ) → verdictOf g (signedBy (g .secret) p) p clock ≡ J.Stale skew → handleAnswer g t b p clock ≡ A.Stale skew
+  pub found-stale : refusalOf g t b ≡ 0 → (skew : ℤ) → verdictOf g (signedBy (g .secret) p) p clock ≡ J.Stale skew
+      → handleAnswer g t b p clock ≡ A.Stale skew
   pub refusals : (n : ℕ) → handleAnswer g t b p clock ≡ A.Refused n → (member n (1 ∷ 2 ∷ 3 ∷ 4 ∷ []) ≡ true) × (n ≡ refusalOf g t b)
   pub discards : (d : ℕ) → handleAnswer g t b p clock ≡ A.Discarded d
       → (member d (1 ∷ 2 ∷ 3 ∷ 4 ∷ 5 ∷ 6 ∷ []) ≡ true) × (verdictOf g (signedBy (g .secret) p) p clock ≡ J.Discarded d)
@@ -78,7 +81,7 @@ Comes s j store a = ComesTo (settingsOf s) (jobAt (s .jobs) j) (partOf j store) 
 
 -- the calls on a scheduler
 pub record Scheduling (s : D.Scheduler) (t b store : List ℕ) : Type 0 where
-  pub make-refusals : (g : Settings) → (makeAnswer g .refusal ≡ makeRefusal g) × (member (makeRefusal g) (0 ∷ 2 ∷ 3 ∷ []) ≡ true)
+  pub make-refusals : (g : Settings) → member (makeRefusal g) (0 ∷ 2 ∷ 3 ∷ []) ≡ true
   pub open-refused : (p : List ℕ) (clock : ℕ) → (openRefusal (openAt (s .jobs)) (length store) ≡ 0 → ⊥)
       → openCalled s p clock store ≡ called s (Refused (openRefusal (openAt (s .jobs)) (length store)))
   pub open-refusals : (p : List ℕ) (clock n : ℕ) → openCalled s p clock store .outcome ≡ Refused n
@@ -103,7 +106,8 @@ pub record Scheduling (s : D.Scheduler) (t b store : List ℕ) : Type 0 where
   pub step-stale : (j : ℕ) (skew : ℤ) → stepCalled s j t b store .outcome ≡ Done (A.Stale skew)
       → Comes s j store (A.Stale skew) × (stepCalled s j t b store .scheduler ≡ withJob s j freeJob) × (stepTable s j t b store ≡ t) × (stepReply s j t b store ≡ b)
   pub drop-refused : (j : ℕ) → (dropRefusal (openAt (s .jobs)) j ≡ 0 → ⊥) → dropCalled s j ≡ called s (Refused (dropRefusal (openAt (s .jobs)) j))
-  pub drop-refusals : (j n : ℕ) → dropCalled s j .outcome ≡ Refused n → (n ≡ 7) × (n ≡ dropRefusal (openAt (s .jobs)) j) × (dropCalled s j .scheduler ≡ s)
+  pub drop-refusals : (j n : ℕ) → dropCalled s j .outcome ≡ Refused n
+      → (n ≡ 7) × (n ≡ dropRefusal (openAt (s .jobs)) j) × (dropCalled s j .scheduler ≡ s)
   pub start-refused : (x : Session) (n : ℕ) → insertAnswer x t ≡ NotInserted n → startCalled s x t ≡ called s (Refused n)
   pub start-refusals : (x : Session) (n : ℕ) → startCalled s x t .outcome ≡ Refused n
       → (member n (1 ∷ 8 ∷ 9 ∷ 10 ∷ []) ≡ true) × (insertAnswer x t ≡ NotInserted n) × (startCalled s x t .scheduler ≡ s) × (insertTable x t ≡ t)
@@ -111,7 +115,19 @@ pub record Scheduling (s : D.Scheduler) (t b store : List ℕ) : Type 0 where
   pub end-refusals : (k n : ℕ) → endCalled s k t .outcome ≡ Refused n
       → (member n (1 ∷ 11 ∷ []) ≡ true) × (removeAnswer k t ≡ NotRemoved n) × (endCalled s k t .scheduler ≡ s) × (removeTable k t ≡ t)
 
+-- what C holds of a scheduler stays as it was too, every number of it
+pub record Holding (h : Held) (t b store : List ℕ) : Type 0 where
+  pub make-kept : (g : Settings) → (makeRefusal g ≡ 0 → ⊥) → makeLeft g h ≡ h
+  pub open-kept : (p : List ℕ) (clock n : ℕ) → openCalled (schedulerIn h) p clock store .outcome ≡ Refused n → openLeft h p clock store ≡ h
+  pub open-discarded-kept : (p : List ℕ) (clock d : ℕ) → openCalled (schedulerIn h) p clock store .outcome ≡ Discarded d
+      → openLeft h p clock store ≡ h
+  pub step-kept : (j n : ℕ) → stepCalled (schedulerIn h) j t b store .outcome ≡ Refused n → stepLeft h j t b store ≡ h
+  pub drop-kept : (j n : ℕ) → dropCalled (schedulerIn h) j .outcome ≡ Refused n → dropLeft h j ≡ h
+  pub start-kept : (x : Session) (n : ℕ) → startCalled (schedulerIn h) x t .outcome ≡ Refused n → startLeft h x t ≡ h
+  pub end-kept : (k n : ℕ) → endCalled (schedulerIn h) k t .outcome ≡ Refused n → endLeft h k t ≡ h
+
 pub record Demand1 : Type 0 where
   pub handling : (g : Settings) (t b p : List ℕ) (clock : ℕ) → Handling g t b p clock
   pub exchanging : (secret out : List ℕ) (d : Draft) (q r : List ℕ) → Exchanging secret out d q r
   pub scheduling : (s : D.Scheduler) (t b store : List ℕ) → Scheduling s t b store
+  pub holding : (h : Held) (t b store : List ℕ) → Holding h t b store

@@ -1,5 +1,6 @@
 pub mod Ranges
-pub mod Fours
 pub mod Kept
+pub mod Rows
+pub mod Restarts
+mod Lowest
 pub mod Back
-pub mod Whole

@@ -1,10 +1,12 @@
-// A job from its numbers, whatever they are: one that is none of ours is free.
+// A job from its rows, whatever they are: one that is none of ours is free.
 ghost use mathlib.Core.Path.{_≡_};
-ghost use Prim.Native.Nat.{_≤_};
-ghost use Rattle.layout.specs.Layout.{between, blockIn, stageIn, jobIn};
+ghost use Prim.Native.Nat.{_≤_, _<_};
+ghost use lib.ListN.{length};
+ghost use Rattle.scheduler.specs.Scheduler.{jobAt, openAt, lowestFree};
+ghost use Rattle.layout.specs.Layout.{between, secretIn, nameIn, blockIn, stageIn, jobsIn};
 
 // n brought between low and high.
-pub fn between(low: usize, high: usize, n: usize) -> usize
+fn between(low: usize, high: usize, n: usize) -> usize
     ensures { λ r. ⌜ r ≡ between low high n ⌝ }
 {
     if n < low {
@@ -14,6 +16,19 @@ pub fn between(low: usize, high: usize, n: usize) -> usize
         return high;
     }
     n
+}
+
+// The length of the secret, and that of the NAS-Identifier.
+pub fn secret_in(n: usize) -> usize
+    ensures { λ r. ⌜ (r ≡ secretIn n) × (r ≤ 64) ⌝ }
+{
+    between(1, 64, n)
+}
+
+pub fn name_in(n: usize) -> usize
+    ensures { λ r. ⌜ (r ≡ nameIn n) × (r ≤ 32) ⌝ }
+{
+    between(1, 32, n)
 }
 
 // Whether block `place` is one of the message of Length n and the secret.
@@ -50,21 +65,71 @@ fn stage_in(size: usize, kind: u32, place: usize, n: usize) -> jobs::Stage
     jobs::Stage::Free
 }
 
-// The job, under a secret of so many bytes.
-pub fn job_in(size: usize, j: super::CJob) -> jobs::Job
-    requires { ⌜ size ≤ 64 ⌝ }
-    ensures { λ r. ⌜ r ≡ jobIn size j ⌝ }
+// Job j, under a secret of so many bytes.
+pub fn job(
+    words: &[[u32; 4]],
+    kinds: &[[u32; 2]],
+    places: &[[usize; 2]],
+    marks: &[[u8; 64]],
+    size: usize,
+    j: usize,
+) -> jobs::Job
+    requires { ⌜ (length (now words) ≡ 4) × (length (now kinds) ≡ 4) × (length (now places) ≡ 4) × (length (now marks) ≡ 4) × (size ≤ 64) × (j < 4) ⌝ }
+    ensures { λ r. ⌜ r ≡ jobAt (jobsIn size (now (words .entry)) (now (kinds .entry)) (now (places .entry)) (now (marks .entry))) j ⌝ }
 {
-    let w = j.words;
-    let m = j.marks;
-    let k = j.kind;
-    let p = j.place;
-    let n = j.length;
+    let w = words[j];
+    let m = marks[j];
+    let k = kinds[j][0];
+    let clock = kinds[j][1];
+    let p = places[j][0];
+    let n = places[j][1];
     jobs::Job {
         stage: stage_in(size, k, p, n),
         words: w,
         marks: m,
         length: n,
-        clock: j.clock,
+        clock,
     }
+}
+
+// Whether job j is open.
+pub fn open_at(
+    words: &[[u32; 4]],
+    kinds: &[[u32; 2]],
+    places: &[[usize; 2]],
+    marks: &[[u8; 64]],
+    size: usize,
+    j: usize,
+) -> bool
+    requires { ⌜ (length (now words) ≡ 4) × (length (now kinds) ≡ 4) × (length (now places) ≡ 4) × (length (now marks) ≡ 4) × (size ≤ 64) × (j < 4) ⌝ }
+    ensures { λ r. ⌜ r ≡ openAt (jobsIn size (now (words .entry)) (now (kinds .entry)) (now (places .entry)) (now (marks .entry))) j ⌝ }
+{
+    let b = job(words, kinds, places, marks, size, j);
+    b.is_open()
+}
+
+// The lowest free job, or 4.
+pub fn lowest_free(
+    words: &[[u32; 4]],
+    kinds: &[[u32; 2]],
+    places: &[[usize; 2]],
+    marks: &[[u8; 64]],
+    size: usize,
+) -> usize
+    requires { ⌜ (length (now words) ≡ 4) × (length (now kinds) ≡ 4) × (length (now places) ≡ 4) × (length (now marks) ≡ 4) × (size ≤ 64) ⌝ }
+    ensures { λ r. ⌜ (r ≡ lowestFree (openAt (jobsIn size (now (words .entry)) (now (kinds .entry)) (now (places .entry)) (now (marks .entry))))) × (r ≤ 4) ⌝ }
+{
+    if !open_at(words, kinds, places, marks, size, 0) {
+        return 0;
+    }
+    if !open_at(words, kinds, places, marks, size, 1) {
+        return 1;
+    }
+    if !open_at(words, kinds, places, marks, size, 2) {
+        return 2;
+    }
+    if !open_at(words, kinds, places, marks, size, 3) {
+        return 3;
+    }
+    4
 }

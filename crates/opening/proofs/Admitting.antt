@@ -1,69 +1,124 @@
--- Opening: R5, R6, D1 to D3 in their order, else the lowest free job gets the packet's Length bytes. A part of the store has room for them, and the new job has its first block before it.
+-- Opening: R5 and R6 in their order, then D1 to D3, which all leave everything as it was; else the lowest free job gets the packet's Length bytes.
 -- Assumes nothing.
-use mathlib.Core.Path.{_≡_}
+use mathlib.Core.Path.{_≡_, refl, sym, _∙_}
+use mathlib.Core.Bool.{Bool, true, false, cond, not}
 use mathlib.Core.List.{List}
 use Prim.Native.Nat.{ℕ, _+_, _*_, _≤_, _<_}
 use native.Mathlib.Omega.{arith}
-use borrow.Author.Tests.{eq-eqb, ne-eqb}
-use lib.ListN.{length, take}
-use lib.Seq.{length-take-le}
+use borrow.Author.Tests.{eq-eqb, ne-eqb, eqb-true, eqb-false}
+use lib.Dec.{eqb}
+use lib.ListN.{length, take, set}
 use Rattle.octets.specs.Runs.{write}
 use Rattle.packets.specs.Discards.{formOf, Sized}
-use Rattle.jobs.specs.declared.Job.{Job}
 use Rattle.jobs.specs.Job.{firstJob}
-use Rattle.scheduler.specs.declared.Scheduler.{Scheduler}
-use Rattle.scheduler.specs.declared.Called.{Called}
-use Rattle.scheduler.specs.declared.Outcome.the-variants.{Refused, Discarded, Opened}
-use Rattle.scheduler.specs.Scheduler.{openAt, lowestFree, withJob, Ours}
+use Rattle.scheduler.specs.Scheduler.{openAt, lowestFree}
 use Rattle.scheduler.specs.Refusals.{openRefusal}
-use Rattle.scheduler.specs.Calls.{called, openCalled, openStore}
-use Rattle.scheduler.proofs.Kept.{with-ours, first-ours}
+use Rattle.scheduler.specs.Calls.{openCalled, openStore}
+use Rattle.layout.specs.Layout.{Held, held, kindRow, placeRow, secretIn, jobsIn, schedulerIn}
+use Rattle.layout.specs.Left.{leftBy, openLeft}
+use Rattle.outcomes.specs.Told.{numberBy, placeBy}
 
--- ---- the copy
+module _ (f : ℕ → Bool) (j : ℕ) (store : List ℕ) (lowest : j ≡ lowestFree f) where
+  pub short : (length store ≡ 16384 → ⊥) → 5 ≡ openRefusal f (length store)
+  unfolding openRefusal
+  short odd = rw (ne-eqb _ _ odd)
 
-pub room : (j n : ℕ) (p store : List ℕ) → n ≤ length p → j < 4 → n ≤ 4096 → length store ≡ 16384 → j * 4096 + length (take n p) ≤ length store
-room j n p store given below short long = rw (length-take-le n p given) (omega arith)
+  module _ (long : length store ≡ 16384) where
+    pub full : j ≡ 4 → 6 ≡ openRefusal f (length store)
+    unfolding openRefusal
+    full four = rw (eq-eqb _ _ long, ← lowest, eq-eqb _ _ four)
 
-pub opened-as : (s : Scheduler) (j n clock : ℕ) (x : Job) → x ≡ firstJob n clock → called (withJob s j x) (Opened j) ≡ called (withJob s j (firstJob n clock)) (Opened j)
-opened-as s j n clock x is = rw is
+    pub free : (j ≡ 4 → ⊥) → 0 ≡ openRefusal f (length store)
+    unfolding openRefusal
+    free some = rw (eq-eqb _ _ long, ← lowest, ne-eqb _ _ some)
 
--- ---- the answers
+-- ---- what no refusal tells
 
-module _ (s : Scheduler) (p store : List ℕ) where
-  pub open-short : (clock : ℕ) → (length store ≡ 16384 → ⊥) → called s (Refused 5) ≡ openCalled s p clock store
-  unfolding openCalled openRefusal
-  open-short clock h = rw (ne-eqb _ _ h)
+none-of : (f : ℕ → Bool) (size : ℕ) (x y : Bool) → eqb size 16384 ≡ x → eqb (lowestFree f) 4 ≡ y → cond {A = ℕ} (not x) 5 (cond y 6 0) ≡ 0
+    → (size ≡ 16384) × (lowestFree f ≡ 4 → ⊥)
+none-of f size false y a b e = absurd (omega arith)
+none-of f size true true a b e = absurd (omega arith)
+none-of f size true false a b e = (eqb-true _ _ a, eqb-false _ _ b)
 
-  pub short-store : (length store ≡ 16384 → ⊥) → store ≡ openStore s p store
-  unfolding openStore openRefusal
-  short-store h = rw (ne-eqb _ _ h)
+module _ (f : ℕ → Bool) (j : ℕ) (store : List ℕ) (lowest : j ≡ lowestFree f) (r : ℕ) (is : r ≡ openRefusal f (length store)) (none : r ≡ 0) where
+  passed : (length store ≡ 16384) × (lowestFree f ≡ 4 → ⊥)
+  unfolding openRefusal
+  passed = none-of f (length store) (eqb (length store) 16384) (eqb (lowestFree f) 4) refl refl (sym is ∙ none)
 
-  module _ (long : length store ≡ 16384) (j : ℕ) (lowest : j ≡ lowestFree (openAt (s .jobs))) where
-    pub open-full : (clock : ℕ) → j ≡ 4 → called s (Refused 6) ≡ openCalled s p clock store
-    unfolding openCalled openRefusal
-    open-full clock h = rw (eq-eqb _ _ long, ← lowest, eq-eqb _ _ h)
+  pub goes-long : length store ≡ 16384
+  goes-long = passed .0
 
-    pub full-store : j ≡ 4 → store ≡ openStore s p store
-    unfolding openStore openRefusal
-    full-store h = rw (eq-eqb _ _ long, ← lowest, eq-eqb _ _ h)
+  pub goes-below : j ≤ 4 → j < 4
+  goes-below h = let n : j ≡ 4 → ⊥ = λ e. passed .1 (sym lowest ∙ e) in omega (arith, h, n)
 
-    module _ (some : j ≡ 4 → ⊥) (d : ℕ) (form : d ≡ formOf p) where
-      pub open-discarded : (clock : ℕ) → (d ≡ 0 → ⊥) → called s (Discarded d) ≡ openCalled s p clock store
-      unfolding openCalled openRefusal
-      open-discarded clock h = rw (eq-eqb _ _ long, ← lowest, ne-eqb _ _ some, ← form, ne-eqb _ _ h)
+-- ---- what is answered and left
 
-      pub discarded-store : (d ≡ 0 → ⊥) → store ≡ openStore s p store
-      unfolding openStore openRefusal
-      discarded-store h = rw (eq-eqb _ _ long, ← lowest, ne-eqb _ _ some, ← form, ne-eqb _ _ h)
+module _ (ws ks ps ms : List (List ℕ)) (secret : List ℕ) (size address : ℕ) (name : List ℕ) (label : ℕ) (p : List ℕ) (clock : ℕ) (store : List ℕ)
+    (z j r : ℕ) (read : z ≡ secretIn size) (lowest : j ≡ lowestFree (openAt (jobsIn z ws ks ps ms)))
+    (is : (f : ℕ → Bool) → j ≡ lowestFree f → r ≡ openRefusal f (length store)) where
+  abbrev before : Held
+  before = held ws ks ps ms secret size address name label
 
-      module _ (n : ℕ) (good : d ≡ 0) (sized : Sized p n) where
-        pub open-admitted : (clock : ℕ) (r : Called) → r ≡ called (withJob s j (firstJob n clock)) (Opened j) → r ≡ openCalled s p clock store
-        unfolding openCalled openRefusal
-        open-admitted clock r is = rw (eq-eqb _ _ long, ← lowest, ne-eqb _ _ some, ← form, eq-eqb _ _ good, ← (sized .is), is)
+  at-first : r ≡ openRefusal (openAt (schedulerIn before .jobs)) (length store)
+  at-first = is (openAt (jobsIn z ws ks ps ms)) lowest ∙ rw read
 
-        pub admitted-store : (after : List ℕ) → after ≡ write store (j * 4096) (take n p) → after ≡ openStore s p store
-        unfolding openStore openRefusal
-        admitted-store after is = rw (eq-eqb _ _ long, ← lowest, ne-eqb _ _ some, ← form, eq-eqb _ _ good, ← (sized .is), is)
+  the-lowest : j ≡ lowestFree (openAt (schedulerIn before .jobs))
+  the-lowest = lowest ∙ rw read
 
-pub admitted-ours : (s : Scheduler) (p : List ℕ) (j n clock : ℕ) (r : Called) → r ≡ called (withJob s j (firstJob n clock)) (Opened j) → Sized p n → Ours s → Ours (r .scheduler)
-admitted-ours s p j n clock r is sized o = rw is (with-ours s j (firstJob n clock) o (first-ours (s .«secret_size») n clock (sized .low) (sized .high)))
+  module _ (some : r ≡ 0 → ⊥) where
+    pub refused-number : r ≡ numberBy (openCalled (schedulerIn before) p clock store .outcome)
+    unfolding openCalled numberBy
+    refused-number = rw (← at-first, ne-eqb _ _ some)
+
+    pub refused-left : (ws′ ks′ ps′ ms′ : List (List ℕ)) → ws′ ≡ ws → ks′ ≡ ks → ps′ ≡ ps → ms′ ≡ ms
+        → held ws′ ks′ ps′ ms′ secret size address name label ≡ openLeft before p clock store
+    unfolding openCalled leftBy
+    refused-left ws′ ks′ ps′ ms′ ew ek ep em = rw (ew, ek, ep, em, ← at-first, ne-eqb _ _ some)
+
+    pub refused-store : store ≡ openStore (schedulerIn before) p store
+    unfolding openStore
+    refused-store = rw (← at-first, ne-eqb _ _ some)
+
+    pub refused-place : (old : ℕ) → old ≡ placeBy (openCalled (schedulerIn before) p clock store .outcome) old
+    unfolding openCalled placeBy
+    refused-place old = rw (← at-first, ne-eqb _ _ some)
+
+  module _ (none : r ≡ 0) (d : ℕ) (form : d ≡ formOf p) where
+    module _ (bad : d ≡ 0 → ⊥) where
+      pub discarded-number : 100 + d ≡ numberBy (openCalled (schedulerIn before) p clock store .outcome)
+      unfolding openCalled numberBy
+      discarded-number = rw (← at-first, eq-eqb _ _ none, ← form, ne-eqb _ _ bad)
+
+      pub discarded-left : (ws′ ks′ ps′ ms′ : List (List ℕ)) → ws′ ≡ ws → ks′ ≡ ks → ps′ ≡ ps → ms′ ≡ ms
+          → held ws′ ks′ ps′ ms′ secret size address name label ≡ openLeft before p clock store
+      unfolding openCalled leftBy
+      discarded-left ws′ ks′ ps′ ms′ ew ek ep em = rw (ew, ek, ep, em, ← at-first, eq-eqb _ _ none, ← form, ne-eqb _ _ bad)
+
+      pub discarded-store : store ≡ openStore (schedulerIn before) p store
+      unfolding openStore
+      discarded-store = rw (← at-first, eq-eqb _ _ none, ← form, ne-eqb _ _ bad)
+
+      pub discarded-place : (old : ℕ) → old ≡ placeBy (openCalled (schedulerIn before) p clock store .outcome) old
+      unfolding openCalled placeBy
+      discarded-place old = rw (← at-first, eq-eqb _ _ none, ← form, ne-eqb _ _ bad)
+
+    module _ (good : d ≡ 0) where
+      pub opened-number : 0 ≡ numberBy (openCalled (schedulerIn before) p clock store .outcome)
+      unfolding openCalled numberBy
+      opened-number = rw (← at-first, eq-eqb _ _ none, ← form, eq-eqb _ _ good)
+
+      pub opened-place : (old v : ℕ) → v ≡ j → v ≡ placeBy (openCalled (schedulerIn before) p clock store .outcome) old
+      unfolding openCalled placeBy
+      opened-place old v e = rw (← at-first, eq-eqb _ _ none, ← form, eq-eqb _ _ good, ← the-lowest, e)
+
+      module _ (n : ℕ) (sized : Sized p n) where
+        pub opened-store : (after : List ℕ) → after ≡ write store (j * 4096) (take n p) → after ≡ openStore (schedulerIn before) p store
+        unfolding openStore
+        opened-store after e = rw (← at-first, eq-eqb _ _ none, ← form, eq-eqb _ _ good, ← the-lowest, ← (sized .is), e)
+
+        pub opened-left : (ws′ ks′ ps′ ms′ : List (List ℕ)) → ws′ ≡ set ws j (firstJob n clock .words) → ks′ ≡ set ks j (kindRow (firstJob n clock))
+            → ps′ ≡ set ps j (placeRow (firstJob n clock)) → ms′ ≡ set ms j (firstJob n clock .marks)
+            → held ws′ ks′ ps′ ms′ secret size address name label ≡ openLeft before p clock store
+        unfolding openCalled leftBy
+        opened-left ws′ ks′ ps′ ms′ ew ek ep em =
+            rw (← at-first, eq-eqb _ _ none, ← form, eq-eqb _ _ good, ← the-lowest, ← (sized .is), ew, ek, ep, em)

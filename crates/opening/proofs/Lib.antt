@@ -1,1 +1,3 @@
-pub mod Admitting
+mod NewJob
+mod Admitting
+mod Dropping

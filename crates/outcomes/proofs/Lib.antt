@@ -1,1 +1,1 @@
-pub mod Reported
+mod Telling

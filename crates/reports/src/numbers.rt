@@ -4,47 +4,6 @@ ghost use Prim.Native.Nat.{_<_};
 ghost use Rattle.reports.specs.Numbers.{numberOf, changedBy, lengthBy, skewBy, stampedBy};
 use answers::Answer;
 
-// The answer.
-pub fn number(a: Answer) -> u32
-    ensures { λ r. ⌜ r ≡ numberOf a ⌝ }
-{
-    match a {
-        Answer::Refused(n) => n as u32,
-        Answer::Discarded(d) => 100 + d as u32,
-        Answer::Stale(k) => 106,
-        Answer::Nak(cause, k, n) => causes::error_cause(cause),
-        Answer::Ack(count, k, n) => 0,
-    }
-}
-
-// The number of sessions changed.
-fn changed_by(a: Answer, old: u32) -> u32
-    requires { ⌜ changedBy a 0 < 4294967296 ⌝ }
-    ensures { λ r. ⌜ r ≡ changedBy a old ⌝ }
-{
-    match a {
-        Answer::Refused(n) => old,
-        Answer::Discarded(d) => 0,
-        Answer::Stale(k) => 0,
-        Answer::Nak(cause, k, n) => 0,
-        Answer::Ack(count, k, n) => count as u32,
-    }
-}
-
-// The reply's length.
-fn length_by(a: Answer, old: u32) -> u32
-    requires { ⌜ lengthBy a 0 < 4294967296 ⌝ }
-    ensures { λ r. ⌜ r ≡ lengthBy a old ⌝ }
-{
-    match a {
-        Answer::Refused(n) => old,
-        Answer::Discarded(d) => 0,
-        Answer::Stale(k) => 0,
-        Answer::Nak(cause, k, n) => n as u32,
-        Answer::Ack(count, k, n) => n as u32,
-    }
-}
-
 // The signed skew.
 fn skew_by(a: Answer, old: i64) -> i64
     ensures { λ r. ⌜ r ≡ skewBy a old ⌝ }
@@ -58,17 +17,13 @@ fn skew_by(a: Answer, old: i64) -> i64
     }
 }
 
-// Whether a stamp is usable.
-fn stamped_by(a: Answer, old: u32) -> u32
-    ensures { λ r. ⌜ r ≡ stampedBy a old ⌝ }
+// The three numbers beside an answer and its skew: sessions changed, the reply's length, whether a stamp is usable.
+fn put(changed: &mut u32, size: &mut u32, stamped: &mut u32, count: u32, n: u32, usable: u32)
+    ensures { λ _. ⌜ (now (changed .exit) ≡ count) × (now (size .exit) ≡ n) × (now (stamped .exit) ≡ usable) ⌝ }
 {
-    match a {
-        Answer::Refused(n) => old,
-        Answer::Discarded(d) => 0,
-        Answer::Stale(k) => 1,
-        Answer::Nak(cause, k, n) => 1,
-        Answer::Ack(count, k, n) => 1,
-    }
+    *changed = count;
+    *size = n;
+    *stamped = usable;
 }
 
 // The answer, and the four numbers beside it written.
@@ -81,9 +36,24 @@ pub fn tell(a: Answer, changed: &mut u32, size: &mut u32, skew: &mut i64, stampe
     ensures { λ _. ⌜ now (skew .exit) ≡ skewBy a (now (skew .entry)) ⌝ }
     ensures { λ _. ⌜ now (stamped .exit) ≡ stampedBy a (now (stamped .entry)) ⌝ }
 {
-    *changed = changed_by(a, *changed);
-    *size = length_by(a, *size);
     *skew = skew_by(a, *skew);
-    *stamped = stamped_by(a, *stamped);
-    number(a)
+    match a {
+        Answer::Refused(n) => n as u32,
+        Answer::Discarded(d) => {
+            put(changed, size, stamped, 0, 0, 0);
+            100 + d as u32
+        }
+        Answer::Stale(k) => {
+            put(changed, size, stamped, 0, 0, 1);
+            106
+        }
+        Answer::Nak(cause, k, n) => {
+            put(changed, size, stamped, 0, n as u32, 1);
+            causes::error_cause(cause)
+        }
+        Answer::Ack(count, k, n) => {
+            put(changed, size, stamped, count as u32, n as u32, 1);
+            0
+        }
+    }
 }

@@ -1,5 +1,2 @@
-pub mod Four
-pub mod Kept
-pub mod Dropping
-pub mod Founding
+pub mod Sizes
 pub mod New

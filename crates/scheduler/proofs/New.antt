@@ -1,6 +1,6 @@
 -- A scheduler that making does not refuse: four free jobs, one of ours, and what it was made with reads back. The bytes that count are those that were copied over the zeros.
 -- Assumes nothing.
-use mathlib.Core.Path.{_≡_, refl, sym, ap, _∙_}
+use mathlib.Core.Path.{_≡_, refl, ap, _∙_}
 use mathlib.Core.Bool.{Bool, true, false, cond}
 use mathlib.Core.List.{List}
 use Prim.Native.Nat.{ℕ, zero, suc, _+_, _≤_}
@@ -8,13 +8,12 @@ use native.Mathlib.Omega.{arith}
 use lib.ListN.{length, take, replicate, length-replicate}
 use Rattle.octets.specs.Runs.{write}
 use Rattle.octets.proofs.Write.{length-write, take-write}
-use Rattle.settings.specs.Settings.{Settings, settings, badSecret, badName}
+use Rattle.settings.specs.Settings.{Settings, badSecret, badName}
 use Rattle.jobs.specs.Job.{freeJob, JobOurs}
-use Rattle.scheduler.specs.declared.Scheduler.{Scheduler}
 use Rattle.scheduler.specs.Scheduler.{settingsOf, jobAt, Ours}
 use Rattle.scheduler.specs.Refusals.{makeRefusal}
-use Rattle.scheduler.specs.Making.{madeOf, makeAnswer}
-use Rattle.scheduler.proofs.Founding.{secret-sized, name-sized}
+use Rattle.scheduler.specs.Making.{madeOf}
+use Rattle.scheduler.proofs.Sizes.{secret-sized, name-sized}
 
 neither : (a b : Bool) → cond {A = ℕ} a 2 (cond b 3 0) ≡ 0 → (a ≡ false) × (b ≡ false)
 neither true b h = absurd (omega arith)
@@ -62,15 +61,3 @@ made-ours g h =
       four = refl;
       each = free-each (length (g .secret));
     }
-
-none-bad : (secret name : List ℕ) (address : ℕ) → badSecret secret ≡ false → badName name ≡ false → makeRefusal (settings secret address name) ≡ 0
-unfolding makeRefusal
-none-bad secret name address h k = rw (h, k)
-
-pub made-here : (secret name : List ℕ) (address : ℕ) (s : Scheduler) (a b : Bool) → s ≡ madeOf (settings secret address name) → a ≡ badSecret secret → a ≡ false → b ≡ badName name → b ≡ false → Ours s
-made-here secret name address s a b is i h j k = rw is (made-ours (settings secret address name) (none-bad secret name address (sym i ∙ h) (sym j ∙ k)))
-
--- what making answers where it does not refuse
-pub made-new : (g : Settings) → makeRefusal g ≡ 0 → makeAnswer g .scheduler ≡ madeOf g
-unfolding makeAnswer
-made-new g h = rw h

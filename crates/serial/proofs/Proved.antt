@@ -9,9 +9,9 @@ use Rattle.settings.specs.Settings.{Settings}
 use Rattle.scheduler.specs.declared.Scheduler as D
 use Rattle.scheduler.specs.Scheduler.{settingsOf, openAt}
 use Rattle.scheduler.specs.Refusals.{makeRefusal}
-use Rattle.scheduler.specs.Making.{makeAnswer}
+use Rattle.scheduler.specs.Making.{madeOf}
 use Rattle.scheduler.specs.Runs.{Call, World, run}
-use Rattle.scheduler.proofs.New.{made-new, made-jobs, made-settings, made-ours}
+use Rattle.scheduler.proofs.New.{made-jobs, made-settings, made-ours}
 use Rattle.serial.specs.Serial.{Serial, notedAt}
 use Rattle.serial.specs.Demand3.{quiet, stepsTaken, world, serially, New, Demand3}
 use Rattle.serial.proofs.Potential.{potential-most, all-finished}
@@ -22,19 +22,21 @@ module _ (s : D.Scheduler) (new : New s) (cs ds : List Call) (t store : List ℕ
   abbrev between : World
   between = run cs (world s t store) .world
 
-  finishes : quiet (run ds between .outs) ≡ true → 912 ≤ stepsTaken (run ds between .outs) → (j : ℕ) → openAt (run ds between .world .scheduler .jobs) j ≡ false
+  finishes : quiet (run ds between .outs) ≡ true → 912 ≤ stepsTaken (run ds between .outs) → (j : ℕ)
+      → openAt (run ds between .world .scheduler .jobs) j ≡ false
   finishes q h =
       let r = whole s new cs t store in
       all-finished (run ds between .world .scheduler .jobs)
       (omega (arith, run-spent ds between (r .notes) (r .tied) q, potential-most (between .scheduler .jobs) (r .tied .count)))
 
-  none-noted : quiet (run ds between .outs) ≡ true → 912 ≤ stepsTaken (run ds between .outs) → (j : ℕ) → notedAt (serially (cs ++ ds) s t store .serial .notes) j ≡ false
+  none-noted : quiet (run ds between .outs) ≡ true → 912 ≤ stepsTaken (run ds between .outs) → (j : ℕ)
+      → notedAt (serially (cs ++ ds) s t store .serial .notes) j ≡ false
   none-noted q h j =
       let o = notes-open (run (cs ++ ds) (world s t store)) (serially (cs ++ ds) s t store) (whole s new (cs ++ ds) t store) in
       ap (λ (f : ℕ → Bool). f j) (sym o) ∙ rw (run-behind cs ds (world s t store)) (finishes q h j)
 
-made : (g : Settings) → makeRefusal g ≡ 0 → New (makeAnswer g .scheduler) × (settingsOf (makeAnswer g .scheduler) ≡ g)
-made g h = rw (made-new g h) (record { ours = made-ours g h; free = made-jobs g }, made-settings g h)
+made : (g : Settings) → makeRefusal g ≡ 0 → New (madeOf g) × (settingsOf (madeOf g) ≡ g)
+made g h = (record { ours = made-ours g h; free = made-jobs g }, made-settings g h)
 
 pub demand3 : Demand3
 demand3 =

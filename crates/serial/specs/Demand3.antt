@@ -13,7 +13,7 @@ use Rattle.scheduler.specs.declared.Outcome as O
 use Rattle.scheduler.specs.declared.Outcome.the-variants.{Refused, Discarded, Opened, Going, Done, Dropped, Started, Ended}
 use Rattle.scheduler.specs.Scheduler.{settingsOf, openAt, Ours}
 use Rattle.scheduler.specs.Refusals.{makeRefusal}
-use Rattle.scheduler.specs.Making.{makeAnswer}
+use Rattle.scheduler.specs.Making.{madeOf}
 use Rattle.scheduler.specs.Runs.{Call, World, Out, Ran, run}
 use Rattle.serial.specs.Serial.{SerialRan, notedAt, atFirst, serialRun}
 
@@ -84,11 +84,12 @@ pub record New (s : D.Scheduler) : Type 0 where
 
 pub record Demand3 : Type 0 where
   -- what making gives, where it does not refuse, is newly made, and holds what it was made with
-  pub made : (g : Settings) → makeRefusal g ≡ 0 → New (makeAnswer g .scheduler) × (settingsOf (makeAnswer g .scheduler) ≡ g)
+  pub made : (g : Settings) → makeRefusal g ≡ 0 → New (madeOf g) × (settingsOf (madeOf g) ≡ g)
   -- every answer along the way and every step's reply buffer
   pub answers : (s : D.Scheduler) → New s → (cs : List Call) (t store : List ℕ) → run cs (world s t store) .outs ≡ serially cs s t store .outs
   -- after the list the table
-  pub table : (s : D.Scheduler) → New s → (cs : List Call) (t store : List ℕ) → run cs (world s t store) .world .table ≡ serially cs s t store .serial .table
+  pub table : (s : D.Scheduler) → New s → (cs : List Call) (t store : List ℕ)
+      → run cs (world s t store) .world .table ≡ serially cs s t store .serial .table
   -- if nothing is opened, started, ended or dropped after that, all open requests are finished by the 912th further step that is not refused
   pub ends : (s : D.Scheduler) → New s → (cs ds : List Call) (t store : List ℕ)
       → quiet (later s cs ds t store .outs) ≡ true → mostSteps ≤ stepsTaken (later s cs ds t store .outs)

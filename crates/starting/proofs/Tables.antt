@@ -1,37 +1,75 @@
--- A session start and a session end, each by its answer: what is not refused restarts the jobs past Check, what is refused restarts nobody.
+-- A session start and a session end, each by what the table's own call answered: one that is not refused sends the jobs past Check back to slot 0, one that is
+-- refused leaves all as it was. The slot of a start is one of 64.
 -- Assumes nothing.
-use mathlib.Core.Path.{_≡_}
+use mathlib.Core.Path.{_≡_, sym, _∙_}
 use mathlib.Core.List.{List}
-use Prim.Native.Nat.{ℕ}
+use Prim.Native.Nat.{ℕ, _<_}
+use native.Mathlib.Omega.{arith}
+use Rattle.slots.specs.Slot.{slotCount}
+use Rattle.slots.proofs.Count.{counted}
 use Rattle.records.specs.Record.{Session}
 use Rattle.sessions.specs.declared.Inserted.{Inserted}
 use Rattle.sessions.specs.declared.Inserted.the-variants.{Slot, NotInserted}
 use Rattle.sessions.specs.declared.Removed.{Removed}
 use Rattle.sessions.specs.declared.Removed.the-variants.{Gone, NotRemoved}
 use Rattle.sessions.specs.Session.{insertAnswer, removeAnswer}
+use Rattle.sessions.proofs.Free.{free-most}
+use Rattle.sessions.proofs.Starts.{started}
 use Rattle.scheduler.specs.declared.Scheduler.{Scheduler}
-use Rattle.scheduler.specs.declared.Outcome.the-variants.{Refused, Started, Ended}
-use Rattle.scheduler.specs.Scheduler.{restartAll, Ours}
-use Rattle.scheduler.specs.Calls.{called, startCalled, endCalled}
-use Rattle.scheduler.proofs.Kept.{all-ours}
+use Rattle.scheduler.specs.Calls.{startCalled, endCalled}
+use Rattle.layout.specs.Layout.{Held, held}
+use Rattle.layout.specs.Left.{restartPlaces, restartMarks, leftBy, startLeft, endLeft}
+use Rattle.outcomes.specs.Told.{numberBy, placeBy}
 
-module _ (s : Scheduler) (x : Session) (t : List ℕ) (r : Inserted) (is : r ≡ insertAnswer x t) where
-  pub start-slot : (k : ℕ) (a : Scheduler) → r ≡ Slot k → a ≡ restartAll s → called a (Started k) ≡ startCalled s x t
-  unfolding startCalled
-  start-slot k a slot all = rw (← is, slot, all)
+module _ (x : Session) (t : List ℕ) (r : Inserted) (is : r ≡ insertAnswer x t) where
+  module _ (k : ℕ) (slot : r ≡ Slot k) where
+    pub start-number : (s : Scheduler) → 0 ≡ numberBy (startCalled s x t .outcome)
+    unfolding startCalled numberBy
+    start-number s = rw (← is, slot)
 
-  pub start-refused : (n : ℕ) → r ≡ NotInserted n → called s (Refused n) ≡ startCalled s x t
-  unfolding startCalled
-  start-refused n refused = rw (← is, refused)
+    pub start-slot : (s : Scheduler) (old v : ℕ) → v ≡ k → v ≡ placeBy (startCalled s x t .outcome) old
+    unfolding startCalled placeBy
+    start-slot s old v e = rw (← is, slot, e)
 
-module _ (s : Scheduler) (k : ℕ) (t : List ℕ) (r : Removed) (is : r ≡ removeAnswer k t) where
-  pub end-gone : (a : Scheduler) → r ≡ Gone → a ≡ restartAll s → called a Ended ≡ endCalled s k t
-  unfolding endCalled
-  end-gone a gone all = rw (← is, gone, all)
+    pub slot-small : k < 4294967296
+    slot-small = omega (arith, started x t k (sym is ∙ slot) .lowest, free-most t 0 (slotCount t), counted t .most)
 
-  pub end-refused : (n : ℕ) → r ≡ NotRemoved n → called s (Refused n) ≡ endCalled s k t
-  unfolding endCalled
-  end-refused n refused = rw (← is, refused)
+  module _ (n : ℕ) (refused : r ≡ NotInserted n) where
+    pub start-refused : (s : Scheduler) → n ≡ numberBy (startCalled s x t .outcome)
+    unfolding startCalled numberBy
+    start-refused s = rw (← is, refused)
 
-pub table-ours : (s a : Scheduler) → a ≡ restartAll s → Ours s → Ours a
-table-ours s a is o = rw is (all-ours s o)
+    pub start-kept : (h : Held) → h ≡ startLeft h x t
+    unfolding startCalled leftBy
+    start-kept h = rw (← is, refused)
+
+    pub start-same : (s : Scheduler) (old : ℕ) → old ≡ placeBy (startCalled s x t .outcome) old
+    unfolding startCalled placeBy
+    start-same s old = rw (← is, refused)
+
+module _ (k : ℕ) (t : List ℕ) (r : Removed) (is : r ≡ removeAnswer k t) where
+  pub end-number : r ≡ Gone → (s : Scheduler) → 0 ≡ numberBy (endCalled s k t .outcome)
+  unfolding endCalled numberBy
+  end-number gone s = rw (← is, gone)
+
+  module _ (n : ℕ) (refused : r ≡ NotRemoved n) where
+    pub end-refused : (s : Scheduler) → n ≡ numberBy (endCalled s k t .outcome)
+    unfolding endCalled numberBy
+    end-refused s = rw (← is, refused)
+
+    pub end-kept : (h : Held) → h ≡ endLeft h k t
+    unfolding endCalled leftBy
+    end-kept h = rw (← is, refused)
+
+-- the arrays after it, one by one
+module _ (ws ks ps ms ps′ ms′ : List (List ℕ)) (secret : List ℕ) (size address : ℕ) (name : List ℕ) (label : ℕ)
+    (places : ps′ ≡ restartPlaces ks ps) (marks : ms′ ≡ restartMarks ks ms) where
+  pub start-left : (x : Session) (t : List ℕ) (r : Inserted) (k : ℕ) → r ≡ insertAnswer x t → r ≡ Slot k
+      → held ws ks ps′ ms′ secret size address name label ≡ startLeft (held ws ks ps ms secret size address name label) x t
+  unfolding startCalled leftBy
+  start-left x t r k is slot = rw (← is, slot, places, marks)
+
+  pub end-left : (k : ℕ) (t : List ℕ) (r : Removed) → r ≡ removeAnswer k t → r ≡ Gone
+      → held ws ks ps′ ms′ secret size address name label ≡ endLeft (held ws ks ps ms secret size address name label) k t
+  unfolding endCalled leftBy
+  end-left k t r is gone = rw (← is, gone, places, marks)

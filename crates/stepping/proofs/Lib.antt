@@ -1,4 +1,6 @@
-pub mod Finishing
-pub mod Refusing
-pub mod Moving
-pub mod Steps
+mod Refusing
+mod Moving
+mod Parts
+mod Lengths
+mod Bounds
+mod Steps

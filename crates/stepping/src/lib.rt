@@ -1,56 +1,30 @@
 // A step call: R1, R4, R5, R7; the job moved by its part of the store; after an ACK all others restarted.
+mod moves; // moves.rt: a step that is not refused
+
 ghost use mathlib.Core.Path.{_≡_};
-ghost use mathlib.Core.Bool.{cond};
-ghost use Prim.Native.Nat.{_≤_, _<_};
+ghost use Prim.Native.Nat.{_≤_};
 ghost use lib.ListN.{length};
-ghost use Rattle.jobs.specs.Job.{JobOurs};
-ghost use Rattle.jobs.specs.Moves.{moved, movedTable, replyAfter};
-ghost use Rattle.scheduler.specs.Scheduler.{settingsOf, jobAt, openAt, restartAll, partOf, Ours};
+ghost use Rattle.scheduler.specs.Scheduler.{openAt};
 ghost use Rattle.scheduler.specs.Refusals.{stepRefusal};
-ghost use Rattle.scheduler.specs.Calls.{isAck, steppedAs, movedOf, stepCalled, stepTable, stepReply};
-use scheduler::Called;
-use scheduler::Outcome;
-use scheduler::Scheduler;
-
-// The scheduler after one of its requests came to an answer: an ACK restarts the jobs past Check.
-fn finished(s: Scheduler, answer: answers::Answer) -> Scheduler
-    requires { ⌜ length (s .jobs) ≡ 4 ⌝ }
-    ensures { λ r. ⌜ r ≡ cond (isAck answer) (restartAll s) s ⌝ }
-{
-    match answer {
-        answers::Answer::Refused(_) => s,
-        answers::Answer::Discarded(_) => s,
-        answers::Answer::Stale(_) => s,
-        answers::Answer::Nak(_, _, _) => s,
-        answers::Answer::Ack(_, _, _) => scheduler::work::restart_all(s),
-    }
-}
-
-// The scheduler after job j was moved.
-fn settled(s: Scheduler, j: usize, m: jobs::Moved) -> Called
-    requires { ⌜ (length (s .jobs) ≡ 4) × (j < 4) ⌝ }
-    ensures { λ r. ⌜ r ≡ steppedAs s j m (m .ending) ⌝ }
-{
-    let job = m.job;
-    let ending = m.ending;
-    let mut after = s;
-    after.jobs[j] = job;
-    match ending {
-        jobs::Ending::Going => Called {
-            scheduler: after,
-            outcome: Outcome::Going,
-        },
-        jobs::Ending::Done(answer) => Called {
-            scheduler: finished(after, answer),
-            outcome: Outcome::Done(answer),
-        },
-    }
-}
+ghost use Rattle.scheduler.specs.Calls.{stepCalled, stepTable, stepReply};
+ghost use Rattle.layout.specs.Layout.{held, jobsIn, schedulerIn};
+ghost use Rattle.layout.specs.Left.{stepLeft};
+ghost use Rattle.outcomes.specs.Told.{told, toldBy};
 
 // R1, R4, R5, R7, the lowest that applies; 0 where none does.
-fn refusal(s: Scheduler, j: usize, t: &[u8], reply: &[u8], store: &[u8]) -> u8
-    requires { ⌜ length (s .jobs) ≡ 4 ⌝ }
-    ensures { λ r. ⌜ r ≡ stepRefusal (openAt (s .jobs)) (length (now (store .entry))) j (now (t .entry)) (now (reply .entry)) ⌝ }
+fn refusal(
+    words: &[[u32; 4]],
+    kinds: &[[u32; 2]],
+    places: &[[usize; 2]],
+    marks: &[[u8; 64]],
+    size: usize,
+    j: usize,
+    t: &[u8],
+    reply: &[u8],
+    store: &[u8],
+) -> u8
+    requires { ⌜ (length (now words) ≡ 4) × (length (now kinds) ≡ 4) × (length (now places) ≡ 4) × (length (now marks) ≡ 4) × (size ≤ 64) ⌝ }
+    ensures { λ r. ⌜ r ≡ stepRefusal (openAt (jobsIn size (now (words .entry)) (now (kinds .entry)) (now (places .entry)) (now (marks .entry)))) (length (now (store .entry))) j (now (t .entry)) (now (reply .entry)) ⌝ }
 {
     if slots::slot_count(t) == 0 {
         return 1;
@@ -64,63 +38,56 @@ fn refusal(s: Scheduler, j: usize, t: &[u8], reply: &[u8], store: &[u8]) -> u8
     if 3 < j {
         return 7;
     }
-    if scheduler::work::open_at(s, j) {
+    if layout::reading::open_at(words, kinds, places, marks, size, j) {
         return 0;
     }
     7
 }
 
-// Job j moved by its part q of the store, the table and what the scheduler was made with.
-fn worked(s: Scheduler, j: usize, q: &[u8], t: &mut [u8], reply: &mut [u8]) -> jobs::Moved
-    requires { ⌜ Ours s × (j < 4) × (length (now q) ≡ 4096) × (4096 ≤ length (now reply)) ⌝ }
-    ensures { λ r. ⌜ r ≡ moved (settingsOf s) (jobAt (s .jobs) j) (now (q .entry)) (now (t .entry)) ⌝ }
-    ensures { λ r. ⌜ now (t .exit) ≡ movedTable (settingsOf s) (jobAt (s .jobs) j) (now (q .entry)) (now (t .entry)) ⌝ }
-    ensures { λ r. ⌜ now (reply .exit) ≡ replyAfter (settingsOf s .secret) (now (q .entry)) (now (reply .entry)) (r .ending) ⌝ }
-    ensures { λ r. ⌜ JobOurs (s .«secret_size») (r .job) ⌝ }
+// R1, R4, R5, R7, or one step of job j.
+pub fn step(
+    words: &mut [[u32; 4]],
+    kinds: &mut [[u32; 2]],
+    places: &mut [[usize; 2]],
+    marks: &mut [[u8; 64]],
+    secret: &[u8],
+    size: usize,
+    address: u32,
+    name: &[u8],
+    label: usize,
+    j: usize,
+    t: &mut [u8],
+    reply: &mut [u8],
+    store: &[u8],
+    changed: &mut u32,
+    bytes: &mut u32,
+    skew: &mut i64,
+    stamped: &mut u32,
+) -> u32
+    requires { ⌜ (length (now words) ≡ 4) × (length (now kinds) ≡ 4) × (length (now places) ≡ 4) × (length (now marks) ≡ 4) × (length (now secret) ≡ 64) × (length (now name) ≡ 32) ⌝ }
+    ensures { λ r. ⌜ told r (now (changed .exit)) (now (bytes .exit)) (now (skew .exit)) (now (stamped .exit)) ≡ toldBy (stepCalled (schedulerIn (held (now (words .entry)) (now (kinds .entry)) (now (places .entry)) (now (marks .entry)) (now (secret .entry)) size address (now (name .entry)) label)) j (now (t .entry)) (now (reply .entry)) (now (store .entry)) .outcome) (told 0 (now (changed .entry)) (now (bytes .entry)) (now (skew .entry)) (now (stamped .entry))) ⌝ }
+    ensures { λ _. ⌜ held (now (words .exit)) (now (kinds .exit)) (now (places .exit)) (now (marks .exit)) (now (secret .entry)) size address (now (name .entry)) label ≡ stepLeft (held (now (words .entry)) (now (kinds .entry)) (now (places .entry)) (now (marks .entry)) (now (secret .entry)) size address (now (name .entry)) label) j (now (t .entry)) (now (reply .entry)) (now (store .entry)) ⌝ }
+    ensures { λ _. ⌜ now (t .exit) ≡ stepTable (schedulerIn (held (now (words .entry)) (now (kinds .entry)) (now (places .entry)) (now (marks .entry)) (now (secret .entry)) size address (now (name .entry)) label)) j (now (t .entry)) (now (reply .entry)) (now (store .entry)) ⌝ }
+    ensures { λ _. ⌜ now (reply .exit) ≡ stepReply (schedulerIn (held (now (words .entry)) (now (kinds .entry)) (now (places .entry)) (now (marks .entry)) (now (secret .entry)) size address (now (name .entry)) label)) j (now (t .entry)) (now (reply .entry)) (now (store .entry)) ⌝ }
 {
-    let job = s.jobs[j];
-    let secret = s.secret;
-    let secret_size = s.secret_size;
-    let name = s.name;
-    let name_size = s.name_size;
-    moving::step(
-        job,
-        q,
-        &secret[..secret_size],
-        s.address,
-        &name[..name_size],
+    let z = layout::reading::secret_in(size);
+    let y = layout::reading::name_in(label);
+    let n = refusal(words, kinds, places, marks, z, j, t, reply, store);
+    if n != 0 {
+        return n as u32;
+    }
+    let e = moves::stepped(
+        words,
+        kinds,
+        places,
+        marks,
+        &secret[..z],
+        address,
+        &name[..y],
+        j,
         t,
         reply,
-    )
-}
-
-// A step that is not refused.
-fn stepped(s: Scheduler, j: usize, t: &mut [u8], reply: &mut [u8], store: &[u8]) -> Called
-    requires { ⌜ Ours s × (j < 4) × (4096 ≤ length (now reply)) × (length (now store) ≡ 16384) ⌝ }
-    ensures { λ r. ⌜ r ≡ steppedAs s j (movedOf s j (now (t .entry)) (now (store .entry))) (movedOf s j (now (t .entry)) (now (store .entry)) .ending) ⌝ }
-    ensures { λ r. ⌜ now (t .exit) ≡ movedTable (settingsOf s) (jobAt (s .jobs) j) (partOf j (now (store .entry))) (now (t .entry)) ⌝ }
-    ensures { λ r. ⌜ now (reply .exit) ≡ replyAfter (settingsOf s .secret) (partOf j (now (store .entry))) (now (reply .entry)) (movedOf s j (now (t .entry)) (now (store .entry)) .ending) ⌝ }
-    ensures { λ r. ⌜ Ours (r .scheduler) ⌝ }
-{
-    let q = runs::slice(store, j * 4096, 4096);
-    let m = worked(s, j, q, t, reply);
-    settled(s, j, m)
-}
-
-// R1, R4, R5, R7, or one step of job j.
-pub fn step(s: Scheduler, j: usize, t: &mut [u8], reply: &mut [u8], store: &[u8]) -> Called
-    requires { ⌜ Ours s ⌝ }
-    ensures { λ r. ⌜ r ≡ stepCalled s j (now (t .entry)) (now (reply .entry)) (now (store .entry)) ⌝ }
-    ensures { λ r. ⌜ now (t .exit) ≡ stepTable s j (now (t .entry)) (now (reply .entry)) (now (store .entry)) ⌝ }
-    ensures { λ r. ⌜ now (reply .exit) ≡ stepReply s j (now (t .entry)) (now (reply .entry)) (now (store .entry)) ⌝ }
-    ensures { λ r. ⌜ Ours (r .scheduler) ⌝ }
-{
-    let n = refusal(s, j, t, reply, store);
-    if n != 0 {
-        return Called {
-            scheduler: s,
-            outcome: Outcome::Refused(n),
-        };
-    }
-    stepped(s, j, t, reply, store)
+        store,
+    );
+    outcomes::tell(e, changed, bytes, skew, stamped)
 }

@@ -1,8 +1,8 @@
--- `opening::admit` meets its contract: a part of the store has room for Length bytes.
+-- `opening::admit` meets its contract: a part of the store has room for Length bytes, and the job's rows are those of a new one.
 -- Assumes nothing.
 use borrow.Author.Needs.{needs}
 use lib.Seq.{length-take-le}
-use Rattle.opening.proofs.Admitting.{room, opened-as}
+use Rattle.opening.proofs.NewJob.{room, first-words, first-kinds, first-places, first-marks}
 use Rattle.opening.proofs.admit.Statement.{statement}
 use Rattle.opening.proofs.admit.Tie as tie
 
@@ -13,7 +13,8 @@ copy-requires : tie.Need-copy-requires
 copy-requires c κs = search (needs, room)
 
 returns : tie.Need-returns
-returns c = (search (needs, opened-as), search needs)
+returns c =
+    (search (needs, first-words), (search (needs, first-kinds), (search (needs, first-places), (search (needs, first-marks), search needs))))
 
 pub admit-spec : {M : Type 1} → statement M
 admit-spec =
@@ -23,6 +24,9 @@ admit-spec =
     slice-aggregate-copy
     copy-requires
     (λ c κs. search needs)
+    (λ c κs. search needs)
+    (λ c. search needs)
+    (λ c. search needs)
     (λ c. search needs)
     (λ c. search needs)
     (λ c. search needs)

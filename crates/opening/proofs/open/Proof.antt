@@ -1,43 +1,88 @@
--- `opening::open` meets its contract: R5, R6 and D1 to D3 stand in their order.
+-- `opening::open` meets its contract: R5 and R6, D1 to D3, or a job.
 -- Assumes nothing.
 use borrow.Author.Needs.{needs}
-use Rattle.opening.proofs.Admitting.{open-short, short-store, open-full, full-store, open-discarded, discarded-store, open-admitted, admitted-store, admitted-ours}
+use mathlib.Core.Path.{refl}
+use Rattle.opening.proofs.Admitting.{goes-long, goes-below, refused-number, refused-left, refused-store, refused-place}
+use Rattle.opening.proofs.Admitting.{discarded-number, discarded-left, discarded-store, discarded-place}
+use Rattle.opening.proofs.Admitting.{opened-number, opened-left, opened-store, opened-place}
 use Rattle.opening.proofs.open.Statement.{statement}
 use Rattle.opening.proofs.open.Tie as tie
 
-returns : tie.Need-returns
-returns c = (search (needs, open-short), (search (needs, short-store), search needs))
-
-returns-2 : tie.Need-returns-2
-returns-2 c = (search (needs, open-full), (search (needs, full-store), search needs))
-
-returns-3 : tie.Need-returns-3
-returns-3 c = (search (needs, open-discarded), (search (needs, discarded-store), search needs))
-
-returns-4 : tie.Need-returns-4
-returns-4 c =
-    let done = c .before .before .admit .ensures in
-    let sized = c .before .before .before .before in
-    let formed = sized .before .before in
-    let lowest = formed .before .before in
-    let start = lowest .before .before .before .before in (
-      open-admitted _ _ _ (lowest .before .if1 .left) _ (lowest .lowest-free .ensures .0) (formed .before .if2 .left) _ (formed .form .ensures) _ (sized .before .if3 .left) (sized .length-of .ensures) _ _ (done .0),
+refused : tie.Need-returns
+refused c =
+    let asked = c .before in
+    let lowest = asked .before .before in
+    let sized = lowest .before .before .before .before .before in
+    let z = sized .secret-in .ensures .0 in
+    let j = lowest .lowest-free .ensures .0 in
+    let r = asked .refusal .ensures in
+    let some = c .if1 .taken in (
+      search (needs, refused-number),
       (
-        admitted-store _ _ _ (lowest .before .if1 .left) _ (lowest .lowest-free .ensures .0) (formed .before .if2 .left) _ (formed .form .ensures) _ (sized .before .if3 .left) (sized .length-of .ensures) _ (done .1),
-        admitted-ours _ _ _ _ _ _ (done .0) (sized .length-of .ensures) (start .pre),
+        refused-left _ _ _ _ _ _ _ _ _ _ _ _ _ _ _ z j r some _ _ _ _ refl refl refl refl,
+        (refused-store _ _ _ _ _ _ _ _ _ _ 0 _ _ _ _ z j r some, refused-place _ _ _ _ _ _ _ _ _ _ _ _ _ _ _ z j r some _),
       ),
     )
+
+discarded : tie.Need-returns-2
+discarded c = (
+  search (needs, discarded-number),
+  (search (needs, discarded-left), (search (needs, discarded-store), search (needs, discarded-place))),
+)
+
+admit-requires : tie.Need-admit-requires
+admit-requires c κs =
+    let sized = c .before .before .before .before .before .length-of .ensures in
+    let left = c .before .before .before .before .before .before .before .before in
+    let asked = left .before in
+    let lowest = asked .before .before in
+    let start = lowest .before .before .before .before .before .before .before .before .before .before in
+    let j = lowest .lowest-free .ensures in
+    let r = asked .refusal .ensures _ (j .0) in
+    let none = left .if1 .left in
+    let rows = start .pre in (
+      rows .0,
+      rows .1,
+      rows .2,
+      rows .3,
+      goes-below _ _ (start .args .store .now) (j .0) _ r none (j .1),
+      sized .high,
+      sized .given,
+      goes-long _ _ (start .args .store .now) (j .0) _ r none,
+    )
+
+opened : tie.Need-returns-3
+opened c = (search (needs, opened-number), (search (needs, opened-left), (search (needs, opened-store), search (needs, opened-place))))
 
 pub open-spec : {M : Type 1} → statement M
 open-spec =
     tie.close
     (tie.spec
-    returns
     (λ c κs. search needs)
-    returns-2
-    (λ c κs. search needs)
-    returns-3
     (λ c κs. search needs)
     (λ c κs. search needs)
     (λ c. search needs)
-    returns-4)
+    (λ c. search needs)
+    (λ c. search needs)
+    (λ c. search needs)
+    (λ c. search needs)
+    (λ c. search needs)
+    refused
+    (λ c κs. search needs)
+    (λ c. search needs)
+    (λ c. search needs)
+    (λ c. search needs)
+    (λ c. search needs)
+    (λ c. search needs)
+    (λ c. search needs)
+    (λ c. search needs)
+    discarded
+    (λ c κs. search needs)
+    admit-requires
+    (λ c. search needs)
+    (λ c. search needs)
+    (λ c. search needs)
+    (λ c. search needs)
+    (λ c. search needs)
+    (λ c. search needs)
+    opened)

@@ -1,15 +1,15 @@
--- `starting::end` meets its contract: the end of a session restarts the jobs, a refusal does not.
+-- `starting::end` meets its contract: a session that is gone sends the jobs back to slot 0, a refusal does not.
 -- Assumes nothing.
 use borrow.Author.Needs.{needs}
-use Rattle.starting.proofs.Tables.{end-gone, end-refused, table-ours}
+use Rattle.starting.proofs.Tables.{end-number, end-left, end-refused, end-kept}
 use Rattle.starting.proofs.end.Statement.{statement}
 use Rattle.starting.proofs.end.Tie as tie
 
-returns : tie.Need-returns
-returns c = (search (needs, end-gone), (search needs, search (needs, table-ours)))
+gone : tie.Need-returns
+gone c = (search (needs, end-number), (search (needs, end-left), search needs))
 
-returns-2 : tie.Need-returns-2
-returns-2 c = (search (needs, end-refused), (search needs, search needs))
+refused : tie.Need-returns-2
+refused c = (search (needs, end-refused), (search (needs, end-kept), search needs))
 
 pub end-spec : {M : Type 1} → statement M
 end-spec =
@@ -20,6 +20,9 @@ end-spec =
     (λ c κs. search needs)
     (λ c. search needs)
     (λ c. search needs)
-    returns
     (λ c. search needs)
-    returns-2)
+    (λ c. search needs)
+    (λ c. search needs)
+    gone
+    (λ c. search needs)
+    refused)

@@ -1,15 +1,18 @@
--- `starting::start` meets its contract: a session that is in restarts the jobs, a refusal does not.
+-- `starting::start` meets its contract: a session that is in sends the jobs back to slot 0, a refusal does not.
 -- Assumes nothing.
 use borrow.Author.Needs.{needs}
-use Rattle.starting.proofs.Tables.{start-slot, start-refused, table-ours}
+use Rattle.starting.proofs.Tables.{start-number, start-slot, slot-small, start-left, start-refused, start-kept, start-same}
 use Rattle.starting.proofs.start.Statement.{statement}
 use Rattle.starting.proofs.start.Tie as tie
 
-returns : tie.Need-returns
-returns c = (search (needs, start-slot), (search needs, search (needs, table-ours)))
+cast-slot : tie.Need-cast-slot
+cast-slot c = search (needs, slot-small)
 
-returns-2 : tie.Need-returns-2
-returns-2 c = (search (needs, start-refused), (search needs, search needs))
+started : tie.Need-returns
+started c = (search (needs, start-number), (search (needs, start-left), (search needs, search (needs, start-slot))))
+
+refused : tie.Need-returns-2
+refused c = (search (needs, start-refused), (search (needs, start-kept), (search needs, search (needs, start-same))))
 
 pub start-spec : {M : Type 1} → statement M
 start-spec =
@@ -18,8 +21,12 @@ start-spec =
     (λ c κs. search needs)
     (λ c. search needs)
     (λ c κs. search needs)
+    cast-slot
     (λ c. search needs)
     (λ c. search needs)
-    returns
     (λ c. search needs)
-    returns-2)
+    (λ c. search needs)
+    (λ c. search needs)
+    started
+    (λ c. search needs)
+    refused)

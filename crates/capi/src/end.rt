@@ -1,0 +1,40 @@
+// Ending a session, as C calls it: what C holds is lent as arrays.
+ghost use mathlib.Core.Path.{_≡_};
+ghost use Rattle.sessions.specs.Session.{removeTable};
+ghost use Rattle.scheduler.specs.Calls.{endCalled};
+ghost use Rattle.layout.specs.Layout.{held, schedulerIn};
+ghost use Rattle.layout.specs.Left.{endLeft};
+ghost use Rattle.outcomes.specs.Told.{numberBy};
+
+#[no_mangle]
+pub extern "C" fn fbk_end_lent(
+    words: &[[u32; 4]; 4],
+    kinds: &[[u32; 2]; 4],
+    places: &mut [[usize; 2]; 4],
+    marks: &mut [[u8; 64]; 4],
+    secret: &[u8; 64],
+    size: usize,
+    address: u32,
+    name: &[u8; 32],
+    label: usize,
+    table: &mut [u8],
+    slot: u32,
+) -> u32
+    ensures { λ r. ⌜ r ≡ numberBy (endCalled (schedulerIn (held (now (words .entry)) (now (kinds .entry)) (now (places .entry)) (now (marks .entry)) (now (secret .entry)) size address (now (name .entry)) label)) slot (now (table .entry)) .outcome) ⌝ }
+    ensures { λ _. ⌜ held (now (words .entry)) (now (kinds .entry)) (now (places .exit)) (now (marks .exit)) (now (secret .entry)) size address (now (name .entry)) label ≡ endLeft (held (now (words .entry)) (now (kinds .entry)) (now (places .entry)) (now (marks .entry)) (now (secret .entry)) size address (now (name .entry)) label) slot (now (table .entry)) ⌝ }
+    ensures { λ _. ⌜ now (table .exit) ≡ removeTable slot (now (table .entry)) ⌝ }
+{
+    starting::end(
+        words,
+        kinds,
+        places,
+        marks,
+        secret,
+        size,
+        address,
+        name,
+        label,
+        table,
+        slot as usize,
+    )
+}

@@ -1,0 +1,58 @@
+// Starting a session, as C calls it: what C holds is lent as arrays.
+ghost use mathlib.Core.Path.{_≡_};
+ghost use Rattle.records.specs.Record.{sessionOf};
+ghost use Rattle.sessions.specs.Session.{insertTable};
+ghost use Rattle.scheduler.specs.Calls.{startCalled};
+ghost use Rattle.layout.specs.Layout.{held, schedulerIn};
+ghost use Rattle.layout.specs.Left.{startLeft};
+ghost use Rattle.outcomes.specs.Told.{numberBy, placeBy};
+
+#[no_mangle]
+pub extern "C" fn fbk_start_lent(
+    words: &[[u32; 4]; 4],
+    kinds: &[[u32; 2]; 4],
+    places: &mut [[usize; 2]; 4],
+    marks: &mut [[u8; 64]; 4],
+    secret: &[u8; 64],
+    size: usize,
+    address: u32,
+    name: &[u8; 32],
+    label: usize,
+    table: &mut [u8],
+    port: u32,
+    framed: u32,
+    timeout: u32,
+    idle: u32,
+    user: &[u8],
+    id: &[u8],
+    station: &[u8],
+    filter: &[u8],
+    slot: &mut u32,
+) -> u32
+    ensures { λ r. ⌜ r ≡ numberBy (startCalled (schedulerIn (held (now (words .entry)) (now (kinds .entry)) (now (places .entry)) (now (marks .entry)) (now (secret .entry)) size address (now (name .entry)) label)) (sessionOf port framed timeout idle (now (user .entry)) (now (id .entry)) (now (station .entry)) (now (filter .entry))) (now (table .entry)) .outcome) ⌝ }
+    ensures { λ _. ⌜ held (now (words .entry)) (now (kinds .entry)) (now (places .exit)) (now (marks .exit)) (now (secret .entry)) size address (now (name .entry)) label ≡ startLeft (held (now (words .entry)) (now (kinds .entry)) (now (places .entry)) (now (marks .entry)) (now (secret .entry)) size address (now (name .entry)) label) (sessionOf port framed timeout idle (now (user .entry)) (now (id .entry)) (now (station .entry)) (now (filter .entry))) (now (table .entry)) ⌝ }
+    ensures { λ _. ⌜ now (table .exit) ≡ insertTable (sessionOf port framed timeout idle (now (user .entry)) (now (id .entry)) (now (station .entry)) (now (filter .entry))) (now (table .entry)) ⌝ }
+    ensures { λ _. ⌜ now (slot .exit) ≡ placeBy (startCalled (schedulerIn (held (now (words .entry)) (now (kinds .entry)) (now (places .entry)) (now (marks .entry)) (now (secret .entry)) size address (now (name .entry)) label)) (sessionOf port framed timeout idle (now (user .entry)) (now (id .entry)) (now (station .entry)) (now (filter .entry))) (now (table .entry)) .outcome) (now (slot .entry)) ⌝ }
+{
+    starting::start(
+        words,
+        kinds,
+        places,
+        marks,
+        secret,
+        size,
+        address,
+        name,
+        label,
+        table,
+        port,
+        framed,
+        timeout,
+        idle,
+        user,
+        id,
+        station,
+        filter,
+        slot,
+    )
+}
