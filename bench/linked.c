@@ -8,8 +8,8 @@ function *const volatile linked[] = {
     (function *)fbk_handle,
 #endif
 #if LINKED > 1
-    (function *)fbk_write,         (function *)fbk_check_reply,    (function *)fbk_make_by_value, (function *)fbk_open_by_value,
-    (function *)fbk_step_by_value, (function *)fbk_drop_by_value, (function *)fbk_start_by_value, (function *)fbk_end_by_value,
+    (function *)fbk_write,     (function *)fbk_check_reply, (function *)fbk_make_lent,  (function *)fbk_open_lent,
+    (function *)fbk_step_lent, (function *)fbk_drop_lent,   (function *)fbk_start_lent, (function *)fbk_end_lent,
 #endif
     0,
 };

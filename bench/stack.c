@@ -1,7 +1,7 @@
 /* The stack that each call needs: prints 'CALL BYTES', the most over the packets of the benchmark.
  * A call is made on a stack of its own, painted before. What it needs reaches from the frame of the C function that makes the call,
- * which holds the copies that the header's inline functions take, down to the lowest byte that lost its paint. What the deepest function
- * reserves and never writes is not seen. */
+ * through the header's inline function, down to the lowest byte that lost its paint. What the deepest function reserves and never writes
+ * is not seen. */
 #define _XOPEN_SOURCE 700
 #include <stdio.h>
 #include <string.h>

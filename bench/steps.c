@@ -1,4 +1,4 @@
-/* Steps of a job through the library: steps KIND RUNS, for callgrind to count what fbk_step_by_value takes. */
+/* Steps of a job through the library: steps KIND RUNS, for callgrind to count what fbk_step_lent takes. */
 #include <stdio.h>
 #include <stdlib.h>
 #include <string.h>

@@ -13,8 +13,8 @@
  *    nothing, keeps no pointer after a call returns, holds no global state,
  *    opens no socket and reads no clock.
  *
- *  - **Buffers must not overlap.** What one call is given (buffers and
- *    numbers to be written) must be apart from each other. The library
+ *  - **Buffers must not overlap.** What one call is given (buffers, numbers
+ *    to be written, a scheduler) must be apart from each other. The library
  *    cannot test this; where it does not hold, nothing is promised.
  *
  *  - **Lengths** must be true: `x_len` bytes are readable at `x` (and
@@ -308,18 +308,6 @@ uint32_t fbk_check_reply(const uint8_t *secret, size_t secret_len,
 	const uint8_t *reply, size_t reply_len);
 
 /**
- * \brief A request in work, inside of fbk_scheduler.
- */
-typedef struct fbk_job {
-	uint32_t words[4];
-	uint8_t marks[FBK_SLOTS_MAX];
-	size_t place;
-	size_t length;
-	uint32_t clock;
-	uint32_t kind;
-} fbk_job;
-
-/**
  * \brief A scheduler: up to FBK_JOBS requests in work.
  *
  * Made by fbk_make() and given to each call; it may be copied and moved, as it
@@ -327,79 +315,109 @@ typedef struct fbk_job {
  * written. It holds a copy of the secret.
  */
 typedef struct fbk_scheduler {
-	fbk_job jobs[FBK_JOBS];
+	/* Of each job: the chaining words of its MD5. */
+	uint32_t words[FBK_JOBS][4];
+	/* Its kind (0 free, 1 Hash, 2 Check, 3 Match), and its clock. */
+	uint32_t kinds[FBK_JOBS][2];
+	/* Its place (the next block or slot), and its packet's Length. */
+	size_t places[FBK_JOBS][2];
+	/* Which slots match. */
+	uint8_t marks[FBK_JOBS][FBK_SLOTS_MAX];
+	/* What it was made with: only fbk_make() writes these. */
 	uint8_t secret[64];
-	uint8_t name[32];
-	size_t secret_size;
-	size_t name_size;
-	uint32_t address;
+	size_t secret_len;
+	uint8_t nas_id[32];
+	size_t nas_id_len;
+	uint32_t nas_ip;
 } fbk_scheduler;
 
 /*
- * Not to be called directly: what fbk_make() to fbk_end() call. A scheduler
- * goes in and comes back by value, and the numbers beside it.
+ * The library is built for 64-bit, little-endian Linux. A compiler that is set
+ * to other sizes would hand it arrays of another form, and is stopped here.
  */
-typedef struct fbk_report {
-	int64_t skew;
-	size_t count;
-	size_t size;
-	uint32_t answer;
-	uint32_t stamped;
-} fbk_report;
+#if defined(__cplusplus) && __cplusplus >= 201103L
+static_assert(sizeof(fbk_scheduler) == 536,
+	"fbk_scheduler is not as the library reads it");
+#elif !defined(__cplusplus) && defined(__STDC_VERSION__) \
+	&& __STDC_VERSION__ >= 201112L
+_Static_assert(sizeof(fbk_scheduler) == 536,
+	"fbk_scheduler is not as the library reads it");
+#else
+typedef char fbk_scheduler_is_not_as_the_library_reads_it[
+	sizeof(fbk_scheduler) == 536 ? 1 : -1];
+#endif
 
-typedef struct fbk_called {
-	fbk_scheduler scheduler;
-	fbk_report report;
-} fbk_called;
-
-fbk_called fbk_make_by_value(const uint8_t *secret, size_t secret_len,
+/*
+ * Not to be called directly: what fbk_make() to fbk_end() call, which only take
+ * the scheduler apart into its arrays and numbers. Each array has all its
+ * FBK_JOBS rows, or all its bytes, whatever the length beside it says. In
+ * fbk_start_lent() and fbk_end_lent() words and kinds are only read; they are
+ * not `const`, since C would then ask for a cast.
+ */
+uint32_t fbk_make_lent(uint32_t (*words)[4], uint32_t (*kinds)[2],
+	size_t (*places)[2], uint8_t (*marks)[FBK_SLOTS_MAX],
+	uint8_t *kept, size_t *kept_len,
+	uint32_t *ip, uint8_t *id, size_t *id_len,
+	const uint8_t *secret, size_t secret_len,
 	uint32_t nas_ip, const uint8_t *nas_id, size_t nas_id_len);
 
-fbk_called fbk_open_by_value(fbk_scheduler s,
+uint32_t fbk_open_lent(uint32_t (*words)[4], uint32_t (*kinds)[2],
+	size_t (*places)[2], uint8_t (*marks)[FBK_SLOTS_MAX],
+	const uint8_t *secret, size_t secret_len,
+	uint32_t nas_ip, const uint8_t *nas_id, size_t nas_id_len,
 	const uint8_t *packet, size_t packet_len, uint32_t clock,
-	uint8_t *store, size_t store_len);
+	uint8_t *store, size_t store_len, uint32_t *job);
 
-fbk_called fbk_step_by_value(fbk_scheduler s, uint32_t job,
-	uint8_t *table, size_t table_len, uint8_t *reply, size_t reply_size,
-	const uint8_t *store, size_t store_len);
+uint32_t fbk_step_lent(uint32_t (*words)[4], uint32_t (*kinds)[2],
+	size_t (*places)[2], uint8_t (*marks)[FBK_SLOTS_MAX],
+	const uint8_t *secret, size_t secret_len,
+	uint32_t nas_ip, const uint8_t *nas_id, size_t nas_id_len,
+	uint32_t job, uint8_t *table, size_t table_len,
+	uint8_t *reply, size_t reply_size,
+	const uint8_t *store, size_t store_len,
+	uint32_t *changed, uint32_t *reply_len,
+	int64_t *skew, uint32_t *stamped);
 
-fbk_called fbk_drop_by_value(fbk_scheduler s, uint32_t job);
+uint32_t fbk_drop_lent(uint32_t (*words)[4], uint32_t (*kinds)[2],
+	size_t (*places)[2], uint8_t (*marks)[FBK_SLOTS_MAX],
+	const uint8_t *secret, size_t secret_len,
+	uint32_t nas_ip, const uint8_t *nas_id, size_t nas_id_len,
+	uint32_t job);
 
-fbk_called fbk_start_by_value(fbk_scheduler s,
+uint32_t fbk_start_lent(uint32_t (*words)[4], uint32_t (*kinds)[2],
+	size_t (*places)[2], uint8_t (*marks)[FBK_SLOTS_MAX],
+	const uint8_t *secret, size_t secret_len,
+	uint32_t nas_ip, const uint8_t *nas_id, size_t nas_id_len,
 	uint8_t *table, size_t table_len, uint32_t nas_port, uint32_t framed_ip,
 	uint32_t session_timeout, uint32_t idle_timeout,
 	const uint8_t *user_name, size_t user_name_len,
 	const uint8_t *acct_session_id, size_t acct_session_id_len,
 	const uint8_t *calling_station_id, size_t calling_station_id_len,
-	const uint8_t *filter_id, size_t filter_id_len);
+	const uint8_t *filter_id, size_t filter_id_len, uint32_t *slot);
 
-fbk_called fbk_end_by_value(fbk_scheduler s,
+uint32_t fbk_end_lent(uint32_t (*words)[4], uint32_t (*kinds)[2],
+	size_t (*places)[2], uint8_t (*marks)[FBK_SLOTS_MAX],
+	const uint8_t *secret, size_t secret_len,
+	uint32_t nas_ip, const uint8_t *nas_id, size_t nas_id_len,
 	uint8_t *table, size_t table_len, uint32_t slot);
-
-static inline int fbk_is_refusal(uint32_t answer)
-{
-	return answer >= 1 && answer <= 99;
-}
-
-/* Takes the scheduler as it is after a call, unless that was refused. */
-static inline uint32_t fbk_keep(fbk_scheduler *s, const fbk_called *c)
-{
-	if (!fbk_is_refusal(c->report.answer))
-		*s = c->scheduler;
-	return c->report.answer;
-}
 
 /**
  * \brief Make a scheduler with no request in work.
  *
- * Secret and identity are copied, and hold for all its requests.
+ * Secret and identity are copied, and hold for all its requests. The memory is
+ * the caller's, and must have a value before the call, as all that is lent:
+ *
+ *     fbk_scheduler s = {0};
+ *
+ * or `= {}` in C++. A refusal leaves it as it was, and then it must not be
+ * used: zeros read as a scheduler whose secret is one byte, 0.
  *
  *   |   | refused: nothing at all is written                             |
  *   |---|----------------------------------------------------------------|
  *   | 2 | `secret_len` is not 1 to 64                                    |
  *   | 3 | `nas_id_len` is not 1 to 32                                    |
  *
- * \param s            receives the scheduler; need not be initialised.
+ * \param s            receives the scheduler; `{0}` before, as above.
  * \param secret       secret shared with the senders.
  * \param secret_len   its length in bytes, 1 to 64.
  * \param nas_ip       own NAS-IP-Address, its first byte highest.
@@ -412,9 +430,10 @@ static inline uint32_t fbk_make(fbk_scheduler *s,
 	const uint8_t *secret, size_t secret_len,
 	uint32_t nas_ip, const uint8_t *nas_id, size_t nas_id_len)
 {
-	fbk_called c = fbk_make_by_value(secret, secret_len,
-		nas_ip, nas_id, nas_id_len);
-	return fbk_keep(s, &c);
+	return fbk_make_lent(s->words, s->kinds, s->places, s->marks,
+		s->secret, &s->secret_len,
+		&s->nas_ip, s->nas_id, &s->nas_id_len,
+		secret, secret_len, nas_ip, nas_id, nas_id_len);
 }
 
 /**
@@ -452,11 +471,10 @@ static inline uint32_t fbk_open(fbk_scheduler *s,
 	const uint8_t *packet, size_t packet_len, uint32_t clock,
 	uint8_t *store, size_t store_len, uint32_t *job)
 {
-	fbk_called c = fbk_open_by_value(*s, packet, packet_len, clock,
-		store, store_len);
-	if (c.report.answer == 0)
-		*job = (uint32_t)c.report.count;
-	return fbk_keep(s, &c);
+	return fbk_open_lent(s->words, s->kinds, s->places, s->marks,
+		s->secret, s->secret_len,
+		s->nas_ip, s->nas_id, s->nas_id_len,
+		packet, packet_len, clock, store, store_len, job);
 }
 
 /**
@@ -500,15 +518,11 @@ static inline uint32_t fbk_step(fbk_scheduler *s, uint32_t job,
 	uint32_t *changed, uint32_t *reply_len,
 	int64_t *skew, uint32_t *stamped)
 {
-	fbk_called c = fbk_step_by_value(*s, job, table, table_len,
-		reply, reply_size, store, store_len);
-	if (!fbk_is_refusal(c.report.answer)) {
-		*changed = (uint32_t)c.report.count;
-		*reply_len = (uint32_t)c.report.size;
-		*skew = c.report.skew;
-		*stamped = c.report.stamped;
-	}
-	return fbk_keep(s, &c);
+	return fbk_step_lent(s->words, s->kinds, s->places, s->marks,
+		s->secret, s->secret_len,
+		s->nas_ip, s->nas_id, s->nas_id_len,
+		job, table, table_len, reply, reply_size, store, store_len,
+		changed, reply_len, skew, stamped);
 }
 
 /**
@@ -522,8 +536,10 @@ static inline uint32_t fbk_step(fbk_scheduler *s, uint32_t job,
  */
 static inline uint32_t fbk_drop(fbk_scheduler *s, uint32_t job)
 {
-	fbk_called c = fbk_drop_by_value(*s, job);
-	return fbk_keep(s, &c);
+	return fbk_drop_lent(s->words, s->kinds, s->places, s->marks,
+		s->secret, s->secret_len,
+		s->nas_ip, s->nas_id, s->nas_id_len,
+		job);
 }
 
 /**
@@ -566,14 +582,14 @@ static inline uint32_t fbk_start(fbk_scheduler *s,
 	const uint8_t *calling_station_id, size_t calling_station_id_len,
 	const uint8_t *filter_id, size_t filter_id_len, uint32_t *slot)
 {
-	fbk_called c = fbk_start_by_value(*s, table, table_len,
-		nas_port, framed_ip, session_timeout, idle_timeout,
+	return fbk_start_lent(s->words, s->kinds, s->places, s->marks,
+		s->secret, s->secret_len,
+		s->nas_ip, s->nas_id, s->nas_id_len,
+		table, table_len, nas_port, framed_ip,
+		session_timeout, idle_timeout,
 		user_name, user_name_len, acct_session_id, acct_session_id_len,
 		calling_station_id, calling_station_id_len,
-		filter_id, filter_id_len);
-	if (c.report.answer == 0)
-		*slot = (uint32_t)c.report.count;
-	return fbk_keep(s, &c);
+		filter_id, filter_id_len, slot);
 }
 
 /**
@@ -594,8 +610,10 @@ static inline uint32_t fbk_start(fbk_scheduler *s,
 static inline uint32_t fbk_end(fbk_scheduler *s,
 	uint8_t *table, size_t table_len, uint32_t slot)
 {
-	fbk_called c = fbk_end_by_value(*s, table, table_len, slot);
-	return fbk_keep(s, &c);
+	return fbk_end_lent(s->words, s->kinds, s->places, s->marks,
+		s->secret, s->secret_len,
+		s->nas_ip, s->nas_id, s->nas_id_len,
+		table, table_len, slot);
 }
 
 #ifdef __cplusplus

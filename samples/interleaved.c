@@ -11,7 +11,7 @@ enum { SLOTS = 4, WORKED_ON = 2, BEFORE_START = 6 };
 /* Of requests.h: the Filter-Id of the night for room 12, and the end of room 9's session. */
 static const struct request *const asked[WORKED_ON] = {&requests[1], &requests[2]};
 
-static fbk_scheduler scheduler;
+static fbk_scheduler scheduler = {0};
 static uint8_t table[SLOTS * FBK_SLOT_SIZE]; /* zeros: every slot is free */
 static uint8_t store[FBK_STORE_SIZE], packet[FBK_REQUEST_SIZE], reply[FBK_REPLY_SIZE];
 static uint32_t jobs[WORKED_ON];
@@ -66,7 +66,12 @@ static void step_each(unsigned round)
 int main(void)
 {
     unsigned round = 1;
-    printf("  make     %u\n", (unsigned)fbk_make(&scheduler, secret, sizeof secret, nas_ip, nas_id, sizeof nas_id));
+    uint32_t made = fbk_make(&scheduler, secret, sizeof secret, nas_ip, nas_id, sizeof nas_id);
+    printf("  make     %u\n", (unsigned)made);
+    if (made != 0) {
+        fprintf(stderr, "the scheduler is not made: refused (R%u)\n", (unsigned)made);
+        return 1;
+    }
     start(9, 0x0A000009, "room-9", "0000004F");
     start(12, 0x0A00000C, "room-12", "00000050");
     show_table("The session table:");

@@ -1,16 +1,13 @@
 """C programs over the header and the archive: what firmware sees."""
 import re
-import shutil
 import subprocess
 
 import header_scheduler
+import held
 import sample_requests
-from sample_requests import PLACE
+from compiled import ARCHIVE, HEADER, ROOT, STRICT, languages
+from doors import BESIDE
 
-ROOT = PLACE.parent.parent
-ARCHIVE = ROOT / "target" / "staticlib" / "libcapi.a"
-STRICT = ["-pedantic", "-Wall", "-Wextra", "-Wconversion", "-Werror", "-O2"]
-LANGUAGES = [["gcc", "-std=c99", "-x", "c"], ["gcc", "-std=c11", "-x", "c"], ["g++", "-std=c++11", "-x", "c++"]]
 KEPT, NONE = "5 6 -8 7", "0 0 0 0"  # the four numbers: as they were, or as a discard without a stamp writes them
 NULLS = [
     f"none: 104, {NONE}", f"table: 1, {KEPT}", f"secret: 2, {KEPT}", f"nas_id: 3, {KEPT}", f"reply: 4, {KEPT}", f"packet: 101, {NONE}",
@@ -32,10 +29,7 @@ def ran(command, sources):
 
 
 def nulls(probe, tally):
-    for language in LANGUAGES:
-        if shutil.which(language[0]) is None:
-            print(f"   not tried: {language[0]} is not installed")
-            continue
+    for language in languages():
         for got, wanted in zip(ran(language, ["tests/header.c"]).splitlines() + [""] * len(NULLS), NULLS):
             tally.same(got, wanted, *language)
 
@@ -52,14 +46,29 @@ def run_of(text, name):
 
 def world(probe, tally):
     wanted = list(header_scheduler.lines())
-    for language in LANGUAGES:
-        if shutil.which(language[0]) is None:
-            print(f"   not tried: {language[0]} is not installed")
-            continue
+    for language in languages():
         printed = ran(language, ["tests/header_scheduler.c"]).splitlines()
         for got, line in zip(printed + [""] * len(wanted), wanted):
             tally.same(got, line, *language)
         tally.same(len(printed), len(wanted), "lines,", *language)
+
+
+def layout(probe, tally):
+    """The header's size of an fbk_scheduler is that of the tests, and a compiler that lays it out otherwise is stopped by the header itself."""
+    for language in languages():
+        for more, wanted in [([], r"\A\Z"), (["-fpack-struct=1"], "not.as.the.library.reads.it")]:
+            run = subprocess.run([*language, *STRICT, *more, "-fsyntax-only", HEADER], capture_output=True, text=True)
+            tally.same((run.returncode != 0, bool(re.search(wanted, run.stderr))), (more != [], True), *language, *more)
+    stated = set(re.findall(r"sizeof\(fbk_scheduler\) == (\d+)", HEADER.read_text()))
+    tally.same(stated, {str(held.SIZE)}, "the size that the header states")
+
+
+def inline_functions(probe, tally):
+    """What the header compiles into firmware takes the struct apart and calls, and that is all: no branch, no other statement."""
+    bodies = re.findall(r"^static inline \w+ fbk_(\w+)\([^{]*\)\n\{\n(.*?)^\}\n", HEADER.read_text(), re.M | re.S)
+    tally.same([name for name, _ in bodies], list(BESIDE), "the inline functions")
+    for name, body in bodies:
+        tally.same(bool(re.fullmatch(rf"\treturn fbk_{name}_lent\([\w\s,&>-]*\);\n", body)), True, name, "does nothing else")
 
 
 def interleaved(probe, tally):
@@ -87,15 +96,17 @@ def archive(probe, tally):
     tally.same([name for name, kind in symbols if kind == "U" and name not in OF_C], [], "what the archive calls")
     tally.same([name for name, kind in symbols if kind in "BbDdCcSsGg"], [], "what the archive keeps")
     offered = {name for name, kind in symbols if kind == "T"}
-    declared = set(re.findall(r"^(?!static )[a-z].* \*?(\w+)\(", (ROOT / "include" / "fumbokeri.h").read_text(), re.M))
+    declared = set(re.findall(r"^(?!static )[a-z].* \*?(\w+)\(", HEADER.read_text(), re.M))
+    tally.same(declared, {"fbk_handle", "fbk_write", "fbk_check_reply"} | {f"fbk_{name}_lent" for name in BESIDE}, "what is declared")
     tally.same(declared - offered, set(), "declared, and not in the archive")
-    tally.same({name for name in offered if not name.startswith("fbk_")}, set(), "names that are not the library's")
-    tally.same(declared >= {"fbk_handle", "fbk_write", "fbk_check_reply"}, True, "all three are declared")
+    tally.same(offered - declared, set(), "in the archive, and not declared")
 
 
 GROUPS = [
     ("C: NULL where a length is 0, in C and C++", nulls),
-    ("C: the scheduler's pointer forms, in C and C++", world),
+    ("C: the scheduler's inline functions, in C and C++", world),
+    ("C: the size of the scheduler's struct", layout),
+    ("C: the inline functions decide nothing", inline_functions),
     ("C: the sample gate", sample),
     ("C: the sample of requests in work at once", interleaved),
     ("C: the archive keeps nothing and allocates nothing", archive),

@@ -1,5 +1,6 @@
-/* The scheduler's part of the header as C and C++ firmware sees it: the six functions have their types, a refusal leaves the scheduler and every
- * number as they were, and the sample requests are worked on four at a time. Prints the answer to each call and the numbers beside it. */
+/* The scheduler's part of the header as C and C++ firmware sees it: the six functions have their types, a refusal and a discarded opening leave the
+ * scheduler and every number as they were, and the sample requests are worked on four at a time. Prints the answer to each call and the numbers
+ * beside it. */
 #include "../include/fumbokeri.h"
 #include "../samples/requests.h"
 
@@ -42,11 +43,11 @@ static void write_packets(void)
     }
 }
 
-/* Prints an answer; a refused call must have left the scheduler as it was. */
+/* Prints an answer; a refused call, and an opening that is discarded, must have left the scheduler as it was. */
 static uint32_t show(const char *call, uint32_t answer)
 {
-    int refused = answer >= 1 && answer <= 99;
-    printf("%s: %u%s", call, (unsigned)answer, refused && memcmp(&s, &before, sizeof s) != 0 ? ", AND THE SCHEDULER IS CHANGED" : "");
+    int kept = (answer >= 1 && answer <= 99) || (strcmp(call, "open") == 0 && answer != 0);
+    printf("%s: %u%s", call, (unsigned)answer, kept && memcmp(&s, &before, sizeof s) != 0 ? ", AND THE SCHEDULER IS CHANGED" : "");
     memcpy(&before, &s, sizeof s);
     return answer;
 }

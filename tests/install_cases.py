@@ -6,7 +6,7 @@ import shutil
 import subprocess
 import tempfile
 
-from c_cases import ARCHIVE, ROOT
+from compiled import ARCHIVE, ROOT
 
 FILES = ["include/fumbokeri.h", "lib/libfumbokeri.a", "lib/pkgconfig/fumbokeri.pc"]
 TOLD = "made 0, started 0, written 0, handled 0, changed 1, checked 0\n"

@@ -8,7 +8,7 @@ static const uint8_t attributes[] = {55, 6, 0x65, 0x53, 0xF1, 0x00, 1, 5, 'a', '
 
 int main(void)
 {
-    fbk_scheduler scheduler;
+    fbk_scheduler scheduler = {0};
     uint32_t slot, request_len = 0, changed = 0, reply_len = 0, stamped;
     int64_t skew;
     uint32_t made = fbk_make(&scheduler, secret, sizeof secret, 0xC0000207, name, sizeof name);

@@ -40,7 +40,7 @@ NULL = None  # a run of no bytes that lies nowhere
 
 
 class Cell(bytes):
-    """A number that C writes to: a pointer with no length."""
+    """A number that C writes to, or an array whose length C knows: a pointer with no length."""
 
 
 def cell(value):
@@ -57,6 +57,20 @@ def found(libraries, name):
     return next(library[name] for library in libraries if hasattr(library, name))
 
 
+def lay(rooms, arguments):
+    """The words of a call, and the room and length of each run of bytes among its arguments, which it ends at the room's fence."""
+    words, laid = [], []
+    for room, argument in zip(rooms, arguments):
+        if argument is NULL:
+            words += [None, 0]
+        elif isinstance(argument, bytes):
+            words += [room.lay(argument)] if isinstance(argument, Cell) else [room.lay(argument), len(argument)]
+            laid.append((room, len(argument)))
+        else:
+            words.append(argument)
+    return words, laid
+
+
 class Probe:
     def __init__(self, paths):
         self.libraries = libraries = [ctypes.CDLL(path) for path in paths]
@@ -69,17 +83,6 @@ class Probe:
 
     def __call__(self, name, *arguments):
         """What the function returns, and then each run of bytes as it is after the call, read or written."""
-        words, laid = [], []
-        for room, argument in zip(self.rooms, arguments):
-            if argument is NULL:
-                words += [None, 0]
-            elif isinstance(argument, Cell):
-                words.append(room.lay(argument))
-                laid.append((room, len(argument)))
-            elif isinstance(argument, bytes):
-                words += [room.lay(argument), len(argument)]
-                laid.append((room, len(argument)))
-            else:
-                words.append(argument)
+        words, laid = lay(self.rooms, arguments)
         status = self.functions[name](*words)
         return (status, *[room.found(length) for room, length in laid])

@@ -14,6 +14,7 @@ import handle_reply_cases
 import handle_session_cases
 import hmac_cases
 import install_cases
+import keeping_cases
 import md5_cases
 import number_cases
 import packet_null_cases
@@ -75,6 +76,7 @@ MODULES = [
     exchange_random_cases,
     exchange_handler_cases,
     scheduling_cases,
+    keeping_cases,
     c_cases,
     install_cases,
     stored_cases,

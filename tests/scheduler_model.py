@@ -117,9 +117,9 @@ def checked(job, p, gate, table, reply):
 
 
 def matched(job, p, table):
-    """The next slot examined."""
+    """The next slot examined, and marked where it matches. A mark that is there stays: only a struct that no call made has one."""
     asked = [(handle_model.FOUND_BY[a.kind], a.value) for a in packet_model.attributes(p, job.length) if a.kind in handle_model.FOUND_BY]
-    mark = table_model.matches(table_model.slot(table, job.place), asked)
+    mark = 1 if table_model.matches(table_model.slot(table, job.place), asked) else job.marks[job.place]
     return job._replace(place=job.place + 1, marks=job.marks[:job.place] + bytes([mark]) + job.marks[job.place + 1:])
 
 
@@ -127,7 +127,7 @@ def committed(job, p, gate, table, reply):
     """503, or the marked slots changed: those that are there and live."""
     found = packet_model.attributes(p, job.length)
     skew = packet_model.stamp(found) - job.clock
-    slots = [k for k in range(table_model.slot_count(table)) if job.marks[k] and table_model.live(table_model.slot(table, k))]
+    slots = [k for k in range(table_model.slot_count(table)) if job.marks[k] == 1 and table_model.live(table_model.slot(table, k))]
     for k in slots:
         table = table_model.with_slot(table, k, handle_model.changed_slot(table_model.slot(table, k), p[0], found))
     return replied(0 if slots else 503, len(slots), skew, p, job, gate, table, reply)

@@ -1,93 +1,92 @@
 """The scheduler of the library beside the stepwise model, after every call: lists with and without outside writes, refusals, the longest list."""
-import ctypes
+from collections import Counter
 
 import scheduler_model
+import table_model
 from altered_worlds import directed
 from altered_lists import Altered
-from calls import STORE
+from any_structs import any_struct as any_held, any_turns
+from calls import STORE, Step
+from doors import all_doors, two_doors
+from held import left, written
 from packets import CLOCK
-from probe import NULL
-from scheduler_cases import MADE, OTHER, crowded, longest, refused
+from probe import NULL, cell
+from scheduler_cases import ANSWERS, MADE, OFTEN, OTHER, crowded, longest, refused
 from scheduler_lists import Seeded
-from scheduling import Library, Scheduler, fields, in_c, numbers, replayed
+from scheduling import ANY, PLACE, TOLD, replayed, same
 from table_samples import seeded
 
 LISTS, LENGTH = 100, 300
+ANSWERS_OF_ANY = ANSWERS | {Step: [0, 1, 4, 5, 7, 101, 104, 106, 503, 600]}  # on any struct
 
 
 def made(probe, tally):
-    """Making, and a struct that holds what it was made with."""
-    library = Library(probe)
-    for secret, name, answer in MADE:
-        for run in [(secret, name), (secret or NULL, name or NULL)]:
-            called, runs = library("make", run[0], 7, run[1])
-            tally.same((called.report.answer, *runs), (answer, *run), "make with", len(secret), len(name))
-            if answer == 0:
-                tally.same(fields(called.scheduler), fields(in_c(scheduler_model.make(secret, 7, name)[1])), "made with", len(secret), len(name))
+    """Making, and a struct that holds what it was made with; one that is refused stays as it was."""
+    for door in all_doors(probe):
+        for secret, name, answer in MADE:
+            held = written(scheduler_model.make(secret, 7, name)[1], ANY) if answer == 0 else ANY
+            for run in [(secret, name), (secret or NULL, name or NULL)]:
+                lent = [one for one in run if one is not NULL]
+                tally.same(door("make", ANY, run[0], 7, run[1]), (answer, held, lent), door.title, "make with", len(secret), len(name))
 
 
 def hand_made(probe, tally):
-    library = Library(probe)
     for k, world in enumerate(directed()):
-        replayed(library, tally, world.gate, world.turns, "of scheduler", k)
+        replayed(two_doors(probe), tally, world.gate, world.turns, "of scheduler", k)
     world, _ = refused()
-    replayed(library, tally, world.gate, world.turns, "among the refused")
+    replayed(all_doors(probe), tally, world.gate, world.turns, "among the refused")
 
 
 def bounds(probe, tally):
     """A lone job's 132 steps, and 912 at worst."""
-    library, world = Library(probe), crowded(1)
+    world = crowded(1)
     tally.same(world.finish(0)[0], 132, "a lone job")
-    replayed(library, tally, world.gate, world.turns, "of a lone job")
+    replayed(all_doors(probe), tally, world.gate, world.turns, "of a lone job")
     world = longest()
-    replayed(library, tally, world.gate, world.turns, "of the longest list")
+    replayed(all_doors(probe), tally, world.gate, world.turns, "of the longest list")
 
 
 def lists(kind):
     def seeded_lists(probe, tally):
-        library = Library(probe)
         for k in range(LISTS):
             list = kind("C", k)
             for _ in list.turns(LENGTH):
                 pass
-            replayed(library, tally, list.world.gate, list.world.turns, "of list", k)
+            replayed(two_doors(probe), tally, list.world.gate, list.world.turns, "of list", k)
     return seeded_lists
 
 
 def nulls(probe, tally):
-    """A run of no bytes may be NULL."""
-    library, (_, world) = Library(probe), scheduler_model.make(b"s", 7, b"n")
+    """A run of no bytes may be NULL; all but the start of a session leave every byte and number that is lent."""
     store, table, reply = bytes(STORE), bytes(192), bytes(4096)
-    for name, given, answer in [
-        ("open", (NULL, 0, store), 101), ("open", (OTHER, CLOCK, NULL), 5), ("step", (0, NULL, reply, store), 1), ("step", (0, table, NULL, store), 4),
-        ("step", (0, table, reply, NULL), 5), ("start", (NULL, 1, 2, 3, 4, b"u", b"i", b"", b""), 1), ("start", (table, 1, 2, 3, 4, NULL, b"i", b"", b""), 8),
-        ("start", (table, 1, 2, 3, 4, b"u", NULL, b"", b""), 8), ("start", (table, 1, 2, 3, 4, b"u", b"i", NULL, NULL), 0), ("end", (NULL, 0), 1),
-    ]:
-        called, _ = library(name, in_c(world), *given)
-        tally.same(numbers(called.report), (answer, 0, 0, 0, 0), name, answer)
+    held = written(scheduler_model.make(b"s", 7, b"n")[1], ANY)
+    for door in all_doors(probe):
+        for name, given, answer in [
+            ("open", (NULL, 0, store, PLACE), 101), ("open", (OTHER, CLOCK, NULL, PLACE), 5), ("step", (0, NULL, reply, store, *TOLD), 1),
+            ("step", (0, table, NULL, store, *TOLD), 4), ("step", (0, table, reply, NULL, *TOLD), 5), ("end", (NULL, 0), 1),
+            ("start", (NULL, 1, 2, 3, 4, b"u", b"i", b"", b"", PLACE), 1), ("start", (table, 1, 2, 3, 4, NULL, b"i", b"", b"", PLACE), 8),
+            ("start", (table, 1, 2, 3, 4, b"u", NULL, b"", b"", PLACE), 8),
+        ]:
+            lent = [one for one in given if isinstance(one, bytes)]
+            tally.same(door(name, held, *given), (answer, held, lent), door.title, name, answer)
+        session = {"port": 1, "address": 2, "timeout": 3, "idle": 4, "user": b"u", "id": b"i", "station": b"", "filter": b""}
+        lent = [table_model.record(session), b"u", b"i", cell(0)]
+        tally.same(door("start", held, table, 1, 2, 3, 4, b"u", b"i", NULL, NULL, PLACE), (0, held, lent), door.title, "start 0")
 
 
 def any_struct(probe, tally):
-    """Whatever the caller's struct holds, each call returns, within its buffers, and a refused one writes to none."""
-    library, rng = Library(probe), seeded("any struct")
+    """Whatever the caller's struct holds, each call does what the model does with what the library reads there, within its buffers."""
+    rng, seen = seeded("any struct"), Counter()
     for round in range(2000):
-        run = bytearray(rng.randbytes(ctypes.sizeof(Scheduler)))
-        held = Scheduler.from_buffer(run)
-        for job in held.jobs:
-            job.kind = rng.choice([0, 1, 2, 3, 3, 4, 2**32 - 1])
-            job.place = rng.choice([0, 1, 63, 64, 65, 66, 2**32, 2**64 - 1])
-            job.length = rng.choice([0, 19, 20, 100, 4096, 4097, 2**63, 2**64 - 1])
-        held.secret_size, held.name_size = rng.choice([0, 1, 64, 65, 2**64 - 1]), rng.choice([0, 1, 32, 33, 2**64 - 1])
-        store = OTHER + rng.randbytes(4096 - len(OTHER))
-        table, reply, job = rng.randbytes(192 * rng.randint(1, 64)), bytes(4096), rng.randrange(4)
-        for name, given in [
-            ("step", (job, table, reply, store * 4)), ("open", (OTHER, CLOCK, store * 4)), ("drop", (job,)),
-            ("end", (table, rng.randrange(64))), ("start", (table, 1, 2, 3, 4, b"u", b"i", b"", b"")),
-        ]:
-            called, runs = library(name, held, *given)
-            tally.same(None in runs, False, name, "wrote before a run, round", round)
-            if 1 <= called.report.answer <= 99:
-                tally.same(runs, [one for one in given if isinstance(one, bytes)], name, "refused and wrote, round", round)
+        held, packet = any_held(rng)
+        for turn in any_turns(rng, held, packet):
+            seen[type(turn.asked), turn.after.told.answer] += 1
+            for door in two_doors(probe):
+                same(door, tally, held, turn, left(held, turn.asked, turn.after), "round", round)
+    for kind, answers in ANSWERS_OF_ANY.items():
+        print(f"   {kind.__name__.lower():6}", ", ".join(f"{answer}: {seen[kind, answer]:,}" for answer in answers))
+        for answer in answers:
+            tally.same(seen[kind, answer] >= OFTEN, True, kind.__name__, "answered", answer, "came up", seen[kind, answer], "times")
 
 
 GROUPS = [

@@ -95,12 +95,6 @@ def commits_dead_slots(job, p, gate, table, reply):
         return OURS["committed"](job, p, gate, table, reply)
 
 
-def only_sets(job, p, table):
-    """A Match that leaves a mark that is there."""
-    marked = OURS["matched"](job, p, table)
-    return marked._replace(marks=bytes(map(max, job.marks, marked.marks)))
-
-
 def keeps_marks(scheduler):
     return scheduler._replace(jobs=tuple(job._replace(place=0) if job.kind == MATCH else job for job in scheduler.jobs))
 
@@ -164,7 +158,7 @@ WRONG = {  # what is put in the place of ours
     "restarts nobody by an ACK": {"call": restarts_never_by(Step)},
     "restarts nobody by a start": {"call": restarts_never_by(Start)},
     "restarts nobody by an end": {"call": restarts_never_by(End)},
-    "keeps marks in a restart": {"restarted": keeps_marks, "matched": only_sets},
+    "keeps marks in a restart": {"restarted": keeps_marks},
     "restarts by a refused start": {"call": restarts_also(lambda asked, told: isinstance(asked, Start))},
     "restarts by a refused end": {"call": restarts_also(lambda asked, told: isinstance(asked, End))},
     "restarts by a NAK": {"call": restarts_also(lambda asked, told: isinstance(asked, Step) and 400 < told.answer < 600)},

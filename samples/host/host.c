@@ -9,7 +9,7 @@
 #include "signals.h"
 #include "work.h"
 
-static struct host host;
+static struct host host; /* zeros, as fbk_make() asks of the scheduler in it */
 
 /* Makes the scheduler, which also judges secret and identity for whole requests. Returns 0 where they are unfit. */
 static int make_scheduler(struct host *h)

@@ -4,7 +4,8 @@
 
 static uint8_t table[2 * FBK_SLOT_SIZE], reply[FBK_REPLY_SIZE], packet[4096], store[FBK_STORE_SIZE];
 
-/* The answer of the last step, and the reply's length; nothing that the steps tell depends on the secret. */
+/* The answer of the last step, and the reply's length; nothing that the steps tell depends on the secret, nor does what the scheduler holds but for
+ * the secret itself and the chaining words. */
 static struct told finished(fbk_scheduler *s, uint32_t job)
 {
     struct told t;
@@ -15,6 +16,9 @@ static struct told finished(fbk_scheduler *s, uint32_t job)
         expect_open(&t.reply_len, sizeof t.reply_len);
         expect_open(&t.skew, sizeof t.skew);
         expect_open(&t.stamped, sizeof t.stamped);
+        expect_open(s->kinds, sizeof s->kinds);
+        expect_open(s->places, sizeof s->places);
+        expect_open(s->marks, sizeof s->marks);
         show(&t, sizeof t);
     } while (t.answer == 600);
     expect_open(table, sizeof table);
@@ -23,7 +27,7 @@ static struct told finished(fbk_scheduler *s, uint32_t job)
 
 int step(const struct kind *kind)
 {
-    static fbk_scheduler s;
+    static fbk_scheduler s = {0};
     int right = 1;
     for (int k = 0; k < SECRETS && right; k++) {
         struct bytes secret = secret_of(k);

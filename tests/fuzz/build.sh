@@ -26,7 +26,7 @@ linked() { # PROGRAM OUTPUT FILE...
 }
 
 wraps=
-for call in handle write check_reply open_by_value step_by_value start_by_value end_by_value; do wraps="$wraps,--wrap=fbk_$call"; done
+for call in handle write check_reply make_lent open_lent step_lent drop_lent start_lent end_lent; do wraps="$wraps,--wrap=fbk_$call"; done
 for program in handle write check_reply scheduler; do
     linked "$program" "target/fuzz/$program" "$1"
     linked "$program" "target/fuzz/$program-shipped" "$2"

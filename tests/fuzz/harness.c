@@ -17,12 +17,21 @@ static void print_answers(void)
     fputs("\n", stderr);
 }
 
+void expect_number(uint32_t told, uint32_t wanted, const char *wrong)
+{
+    uint8_t bytes[4];
+    expect(told == wanted, wrong);
+    put_be32(bytes, told);
+    if (watching != NULL)
+        watching(bytes, sizeof bytes);
+}
+
 void expect_answer(uint32_t answer, uint32_t wanted, const char *wrong)
 {
     static int counting;
     if (!counting)
         counting = atexit(print_answers) == 0;
-    expect(answer == wanted, wrong);
+    expect_number(answer, wanted, wrong);
     answers[answer % 1000]++;
 }
 

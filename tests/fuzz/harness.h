@@ -34,7 +34,10 @@ size_t copy_packet(uint8_t *p, struct bytes part);
 int is_refused(const struct told *t);
 int is_reply(const struct told *t);
 
-/* As expect; at the end of the process it is told how often each answer was given. */
+/* As expect, of a number that a call tells; the watcher is shown it, high byte first. */
+void expect_number(uint32_t told, uint32_t wanted, const char *wrong);
+
+/* The same of an answer; at the end of the process it is told how often each was given. */
 void expect_answer(uint32_t answer, uint32_t wanted, const char *wrong);
 
 /* The four numbers of a call, at a fence, before it; and after it beside what the model tells. */

@@ -10,6 +10,7 @@
 #define GUARD 64 /* bytes */
 #define MARK 0xA5
 
+watcher *watching;
 static uint8_t near[8 * ROOM_MOST], *near_end = near; /* behind the last that is laid NEAR */
 
 void expect(int is_so, const char *wrong)
@@ -74,4 +75,6 @@ void expect_room(const struct room *r, const char *name)
     for (size_t k = 0; k < GUARD; k++)
         kept &= guard[k] == MARK;
     expect(kept, name);
+    if (watching != NULL)
+        watching(r->at, r->size);
 }

@@ -31,6 +31,11 @@ void must_become(struct room *r, const void *bytes);
 /* Ends the process where the bytes are not as `wanted` has them, or a guard byte was written to. */
 void expect_room(const struct room *r, const char *name);
 
+/* Where there is a watcher, it is shown all that the calls leave behind, in turn: a room's bytes once they are as expected, and each number
+   that is told. So two machines can be held beside each other. */
+typedef void watcher(const uint8_t *bytes, size_t size);
+extern watcher *watching;
+
 /* Ends the process, saying what is wrong, where it is not so. */
 void expect(int is_so, const char *wrong);
 

@@ -38,6 +38,7 @@ found handle makes_up_the_count leaves_the_table changes_the_first_match keeps_1
 found write keeps_8_bits_of_the_code adds_only_for_1 writes_a_length_when_refused clears_the_rest
 found check_reply takes_any_mac takes_any_authenticator takes_any_code asks_the_identifier_first
 found scheduler copies_the_padding never_ends frees_no_discarded_job writes_the_reply_early tells_while_it_goes_on \
-    commits_marks_of_before_a_start ends_a_slot_beyond
+    commits_marks_of_before_a_start ends_a_slot_beyond sends_no_job_back_by_an_end keeps_a_length_when_refused \
+    marks_when_discarded writes_to_the_secret drops_the_next_job_too
 echo "$passed passed, $failed failed"
 [ "$failed" -eq 0 ]

@@ -13,7 +13,7 @@ struct note {
 };
 
 struct world {
-    fbk_scheduler s;
+    struct room s; /* an fbk_scheduler */
     struct gate gate;
     struct room table, store; /* lent to each call; `wanted` is what they must be */
     size_t table_len;         /* less than is laid where the caller lends fewer slots */

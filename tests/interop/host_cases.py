@@ -26,6 +26,7 @@ BAD_WORDS = [
     ("a port that is none", ["--port", "65536", ROOMS], "--port is 0 to 65535, not: 65536"),
     ("no rooms", ["--port", "0"], "no file of rooms"),
     ("a secret of 65 bytes", ["--secret", 65 * "s", ROOMS], "the secret has 65 bytes"),
+    ("a NAS-Identifier of 33 bytes", ["--nas-id", 33 * "n", ROOMS], "the NAS-Identifier has 33 bytes"),
     ("a file that is not there", ["no-such-rooms.txt"], "no-such-rooms.txt: No such file or directory"),
 ]
 
