@@ -1,5 +1,5 @@
 # What this repository does. The work is in the scripts under tests/, bench/, include/ and samples/host/.
-.PHONY: demo test bench record install uninstall host interop fuzz ct
+.PHONY: demo test bench record install uninstall host interop fuzz ct cross
 
 # where the library goes; DESTDIR, put before it, is for packages
 PREFIX = /usr/local
@@ -44,3 +44,7 @@ fuzz:
 # valgrind: no branch and no address depends on the secret, but for the verdicts
 ct:
 	@tests/ct/run.sh
+
+# archives for aarch64 and riscv64 Linux, run under qemu beside x86-64; installs what it needs
+cross:
+	@tests/cross/run.sh

@@ -8,6 +8,7 @@
 #   room.c                 memory with fences and guard bytes
 #   seeds.py               inputs to start from; what is found on the way is kept in target/fuzz/corpus, and later runs go on from there
 #   wrong_*.c, self_test.sh   the library with something wrong in it: the programs must find it
+#   seen.sh                the answers that a run must have reached
 #   kit.sh, build.sh       how the fuzzer sees which branches the library takes
 set -u
 cd "$(dirname "$0")/../.." || exit 1
@@ -41,18 +42,8 @@ run() { # PROGRAM LOG WORDS...
     return 1
 }
 
-# Whether each of these answers was given at least once: what is not reached is not tested.
-seen() { # LOG ANSWER...
-    told=$(grep '^answers:' "$1")
-    shift
-    for answer in "$@"; do
-        case $told in *" $answer("*) ;; *) echo "    never answered: $answer"; return 1 ;; esac
-    done
-}
-
-fuzzed() { # PROGRAM ANSWER...
+fuzzed() { # PROGRAM
     name=$1 log=$room/$1.log
-    shift
     mkdir -p "$room/corpus/$name"
     run "$name" "$log" -max_total_time=$((seconds / 4)) -dict=$room/seeds/dictionary -print_final_stats=1
     found=$?
@@ -62,7 +53,7 @@ fuzzed() { # PROGRAM ANSWER...
     echo "$name: ${runs:-?} runs, corpus $(find "$room/corpus/$name" -type f | wc -l), ${reached:-?} of ${places:-?} branches reached, $found findings"
     sed -n 's/^answers:/    answers (how often):/p' "$log"
     count $found "$name has a finding"
-    [ $found -ne 0 ] || { seen "$log" "$@"; count $? "$name does not reach every answer"; }
+    [ $found -ne 0 ] || { tests/fuzz/seen.sh "$name" "$log"; count $? "$name does not reach every answer"; }
     run "$name-shipped" "$room/$name-shipped.log" -runs=0
     count $? "$name has a finding with the archive as it is handed over"
 }
@@ -72,9 +63,6 @@ tests/fuzz/self_test.sh >$room/self_test.log
 count $? 'the programs do not find all that is wrong'
 cat $room/self_test.log
 echo "== $seconds seconds of fuzzing"
-fuzzed handle 0 1 2 3 4 101 102 103 104 105 106 401 402 403 404 405 503 506
-fuzzed write 0 2 4 12 13
-fuzzed check_reply 0 2 201 202 203 204 205 206
-fuzzed scheduler 0 1 2 3 4 5 6 7 8 9 10 11 101 102 103 104 105 106 401 402 403 404 405 503 506 600
+for program in handle write check_reply scheduler; do fuzzed $program; done
 echo "$passed passed, $failed failed"
 [ "$failed" -eq 0 ]
