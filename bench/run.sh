@@ -21,8 +21,8 @@ fi
 
 # MD5 is as fast as it is only where the compiler leaves this function by itself (docs/DECISIONS.md, 3). Instructions would not show that it did not.
 for archive in "$1" "$3"; do
-    nm "$archive" | grep -q ' t compression::hash$' && continue
-    echo "bench: $archive has no function compression::hash of its own: the compiler has put it into its callers, and MD5 takes a quarter more time" >&2
+    nm "$archive" | grep -q ' t md5_blocks::hash$' && continue
+    echo "bench: $archive has no function md5_blocks::hash of its own: the compiler has put it into its callers, and MD5 takes a quarter more time" >&2
     exit 1
 done
 

@@ -33,6 +33,10 @@
  *
  *  - **Every call returns.** Whatever the bytes are, no call faults or hangs.
  *
+ *  - **Platform.** 64-bit, little-endian Linux: x86-64, and aarch64 and riscv64
+ *    by archives of their own. `size_t` has 64 bits there, and the library is
+ *    compiled for that: lengths and the numbers of a scheduler are so wide.
+ *
  * ## Answers
  *
  * Each call answers by one number.
@@ -65,6 +69,10 @@
  *
  * A slot is live exactly if mark and four lengths are as above; any other
  * content is a free slot. So a table of zeros is empty.
+ *
+ * Sessions are started by fbk_start() and ended by fbk_end(). They take a
+ * scheduler, since it has to know: where only fbk_handle() is used, make one,
+ * open nothing on it, and give it to these two calls alone.
  *
  * ## The scheduler
  *
@@ -291,8 +299,9 @@ uint32_t fbk_write(uint32_t code, uint8_t identifier,
  *
  * A reply without a Message-Authenticator may be right, also where the request
  * has one. The request's own authenticator, Message-Authenticator and
- * Event-Timestamp are not judged. Every reply that `fbk_handle` writes is right
- * for its packet and its secret.
+ * Event-Timestamp are not judged. Every reply that fbk_handle() writes is right
+ * for its packet and its secret, and every reply that fbk_step() writes for the
+ * packet of its opening and the scheduler's secret.
  *
  * \param secret       secret shared with the gate.
  * \param secret_len   its length in bytes, 1 to 64.

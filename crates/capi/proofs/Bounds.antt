@@ -5,13 +5,13 @@ use mathlib.Core.List.{List}
 use Prim.Native.Nat.{ℕ, _<_}
 use native.Mathlib.Omega.{arith}
 use lib.IntN.{ℤ}
-use Rattle.settings.specs.Settings.{Settings}
-use Rattle.answers.specs.declared.Answer as D
-use Rattle.answers.specs.declared.Answer.the-variants as A
-use Rattle.handler.specs.Handle.{handleAnswer}
-use Rattle.answers.specs.Told.{replySize}
-use Rattle.handler.proofs.Bounds.{changeCount, reply-most, change-few}
-use Rattle.reports.specs.Numbers.{numberOf, changedBy, lengthBy, skewBy, stampedBy}
+use Rattle.nas_settings.specs.Settings.{Settings}
+use Rattle.das_answer.specs.declared.Answer as D
+use Rattle.das_answer.specs.declared.Answer.the-variants as A
+use Rattle.das_handle.specs.Handle.{handleAnswer}
+use Rattle.das_answer.specs.Told.{replySize}
+use Rattle.das_handle.proofs.Bounds.{changeCount, reply-most, change-few}
+use Rattle.c_numbers.specs.Numbers.{numberOf, changedBy, lengthBy, skewBy, stampedBy}
 
 changed-is : (a : D.Answer) → changedBy a 0 ≡ changeCount a
 unfolding changedBy

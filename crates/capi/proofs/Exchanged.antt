@@ -7,13 +7,13 @@ use Prim.Native.Nat.{ℕ, _<_}
 use native.Mathlib.Omega.{arith}
 use borrow.Author.Tests.{eqb-true}
 use lib.Dec.{eqb}
-use Rattle.requests.specs.declared.Written as W
-use Rattle.requests.specs.declared.Written.the-variants.{Done, NotWritten}
-use Rattle.reply_check.specs.declared.Checked as C
-use Rattle.requests.specs.Writer.{Draft, writeRefusal, requestLength, writeAnswer}
-use Rattle.reply_check.specs.ReplyCheck.{checkAnswer}
-use Rattle.exchanges.proofs.Requests.{written-short}
-use Rattle.reports.specs.Numbers.{writtenNumber, writtenLength, checkedNumber}
+use Rattle.dac_write.specs.declared.Written as W
+use Rattle.dac_write.specs.declared.Written.the-variants.{Done, NotWritten}
+use Rattle.dac_check.specs.declared.Checked as C
+use Rattle.dac_write.specs.Writer.{Draft, writeRefusal, requestLength, writeAnswer}
+use Rattle.dac_check.specs.ReplyCheck.{checkAnswer}
+use Rattle.thm_exchange.proofs.Requests.{written-short}
+use Rattle.c_numbers.specs.Numbers.{writtenNumber, writtenLength, checkedNumber}
 
 by-refusal : (b : Bool) (n r : ℕ) → (b ≡ true → n < 4294967296) → writtenLength (cond b (Done n) (NotWritten r)) 0 < 4294967296
 unfolding writtenLength

@@ -1,9 +1,9 @@
 // Dropping a job, as C calls it: what C holds is lent as arrays.
 ghost use mathlib.Core.Path.{_≡_};
-ghost use Rattle.scheduler.specs.Calls.{dropCalled};
-ghost use Rattle.layout.specs.Layout.{held, schedulerIn};
-ghost use Rattle.layout.specs.Left.{dropLeft};
-ghost use Rattle.outcomes.specs.Told.{numberBy};
+ghost use Rattle.sched_state.specs.Calls.{dropCalled};
+ghost use Rattle.sched_rows.specs.Layout.{held, schedulerIn};
+ghost use Rattle.sched_rows.specs.Left.{dropLeft};
+ghost use Rattle.c_told.specs.Told.{numberBy};
 
 #[no_mangle]
 pub extern "C" fn fbk_drop_lent(
@@ -21,7 +21,7 @@ pub extern "C" fn fbk_drop_lent(
     ensures { λ r. ⌜ r ≡ numberBy (dropCalled (schedulerIn (held (now (words .entry)) (now (kinds .entry)) (now (places .entry)) (now (marks .entry)) (now (secret .entry)) size address (now (name .entry)) label)) job .outcome) ⌝ }
     ensures { λ _. ⌜ held (now (words .exit)) (now (kinds .exit)) (now (places .exit)) (now (marks .exit)) (now (secret .entry)) size address (now (name .entry)) label ≡ dropLeft (held (now (words .entry)) (now (kinds .entry)) (now (places .entry)) (now (marks .entry)) (now (secret .entry)) size address (now (name .entry)) label) job ⌝ }
 {
-    opening::drop(
+    sched_open::drop(
         words,
         kinds,
         places,

@@ -1,10 +1,10 @@
 // Ending a session, as C calls it: what C holds is lent as arrays.
 ghost use mathlib.Core.Path.{_≡_};
-ghost use Rattle.sessions.specs.Session.{removeTable};
-ghost use Rattle.scheduler.specs.Calls.{endCalled};
-ghost use Rattle.layout.specs.Layout.{held, schedulerIn};
-ghost use Rattle.layout.specs.Left.{endLeft};
-ghost use Rattle.outcomes.specs.Told.{numberBy};
+ghost use Rattle.table_sessions.specs.Session.{removeTable};
+ghost use Rattle.sched_state.specs.Calls.{endCalled};
+ghost use Rattle.sched_rows.specs.Layout.{held, schedulerIn};
+ghost use Rattle.sched_rows.specs.Left.{endLeft};
+ghost use Rattle.c_told.specs.Told.{numberBy};
 
 #[no_mangle]
 pub extern "C" fn fbk_end_lent(
@@ -24,7 +24,7 @@ pub extern "C" fn fbk_end_lent(
     ensures { λ _. ⌜ held (now (words .entry)) (now (kinds .entry)) (now (places .exit)) (now (marks .exit)) (now (secret .entry)) size address (now (name .entry)) label ≡ endLeft (held (now (words .entry)) (now (kinds .entry)) (now (places .entry)) (now (marks .entry)) (now (secret .entry)) size address (now (name .entry)) label) slot (now (table .entry)) ⌝ }
     ensures { λ _. ⌜ now (table .exit) ≡ removeTable slot (now (table .entry)) ⌝ }
 {
-    starting::end(
+    sched_start::end(
         words,
         kinds,
         places,

@@ -9,11 +9,11 @@ mod step;
 ghost use mathlib.Core.Path.{_≡_};
 ghost use mathlib.Core.Bool.{not};
 ghost use lib.Dec.{eqb};
-ghost use Rattle.settings.specs.Settings.{settings};
-ghost use Rattle.handler.specs.Handle.{handleAnswer, handleTable, handleReply};
-ghost use Rattle.requests.specs.Writer.{draft, writeAnswer, writeOutput};
-ghost use Rattle.reply_check.specs.ReplyCheck.{checkAnswer};
-ghost use Rattle.reports.specs.Numbers.{numberOf, changedBy, lengthBy, skewBy, stampedBy, writtenNumber, writtenLength, checkedNumber};
+ghost use Rattle.nas_settings.specs.Settings.{settings};
+ghost use Rattle.das_handle.specs.Handle.{handleAnswer, handleTable, handleReply};
+ghost use Rattle.dac_write.specs.Writer.{draft, writeAnswer, writeOutput};
+ghost use Rattle.dac_check.specs.ReplyCheck.{checkAnswer};
+ghost use Rattle.c_numbers.specs.Numbers.{numberOf, changedBy, lengthBy, skewBy, stampedBy, writtenNumber, writtenLength, checkedNumber};
 
 // Handles a request.
 #[no_mangle]
@@ -38,8 +38,8 @@ pub extern "C" fn fbk_handle(
     ensures { λ _. ⌜ now (skew .exit) ≡ skewBy (handleAnswer (settings (now (secret .entry)) address (now (name .entry))) (now (table .entry)) (now (reply .entry)) (now (packet .entry)) clock) (now (skew .entry)) ⌝ }
     ensures { λ _. ⌜ now (stamped .exit) ≡ stampedBy (handleAnswer (settings (now (secret .entry)) address (now (name .entry))) (now (table .entry)) (now (reply .entry)) (now (packet .entry)) clock) (now (stamped .entry)) ⌝ }
 {
-    let a = handler::handle(table, secret, address, name, reply, packet, clock);
-    reports::numbers::tell(a, changed, size, skew, stamped)
+    let a = das_handle::handle(table, secret, address, name, reply, packet, clock);
+    c_numbers::numbers::tell(a, changed, size, skew, stamped)
 }
 
 // Writes a request.
@@ -57,9 +57,9 @@ pub extern "C" fn fbk_write(
     ensures { λ _. ⌜ now (out .exit) ≡ writeOutput (now (secret .entry)) (now (out .entry)) (draft code identifier (now (given .entry)) (not (eqb add 0))) ⌝ }
     ensures { λ _. ⌜ now (size .exit) ≡ writtenLength (writeAnswer (now (secret .entry)) (now (out .entry)) (draft code identifier (now (given .entry)) (not (eqb add 0)))) (now (size .entry)) ⌝ }
 {
-    let w = requests::write_request(code, identifier, given, add != 0, secret, out);
-    *size = reports::exchange::written_length(w, *size);
-    reports::exchange::written_number(w)
+    let w = dac_write::write_request(code, identifier, given, add != 0, secret, out);
+    *size = c_numbers::exchange::written_length(w, *size);
+    c_numbers::exchange::written_number(w)
 }
 
 // Checks a reply.
@@ -67,5 +67,5 @@ pub extern "C" fn fbk_write(
 pub extern "C" fn fbk_check_reply(secret: &[u8], request: &[u8], reply: &[u8]) -> u32
     ensures { λ r. ⌜ r ≡ checkedNumber (checkAnswer (now (secret .entry)) (now (request .entry)) (now (reply .entry))) ⌝ }
 {
-    reports::exchange::checked_number(reply_check::check_reply(secret, request, reply))
+    c_numbers::exchange::checked_number(dac_check::check_reply(secret, request, reply))
 }

@@ -1,9 +1,9 @@
 // Making a scheduler, as C calls it: what C holds is lent as arrays.
 ghost use mathlib.Core.Path.{_≡_};
-ghost use Rattle.settings.specs.Settings.{settings};
-ghost use Rattle.scheduler.specs.Refusals.{makeRefusal};
-ghost use Rattle.layout.specs.Layout.{held};
-ghost use Rattle.layout.specs.Left.{makeLeft};
+ghost use Rattle.nas_settings.specs.Settings.{settings};
+ghost use Rattle.sched_state.specs.Refusals.{makeRefusal};
+ghost use Rattle.sched_rows.specs.Layout.{held};
+ghost use Rattle.sched_rows.specs.Left.{makeLeft};
 
 #[no_mangle]
 pub extern "C" fn fbk_make_lent(
@@ -23,7 +23,7 @@ pub extern "C" fn fbk_make_lent(
     ensures { λ r. ⌜ r ≡ makeRefusal (settings (now (secret .entry)) ip (now (name .entry))) ⌝ }
     ensures { λ _. ⌜ held (now (words .exit)) (now (kinds .exit)) (now (places .exit)) (now (marks .exit)) (now (kept .exit)) (now (size .exit)) (now (address .exit)) (now (own .exit)) (now (label .exit)) ≡ makeLeft (settings (now (secret .entry)) ip (now (name .entry))) (held (now (words .entry)) (now (kinds .entry)) (now (places .entry)) (now (marks .entry)) (now (kept .entry)) (now (size .entry)) (now (address .entry)) (now (own .entry)) (now (label .entry))) ⌝ }
 {
-    making::make(
+    sched_make::make(
         words,
         kinds,
         places,

@@ -1,9 +1,9 @@
 // Opening a request, as C calls it: what C holds is lent as arrays.
 ghost use mathlib.Core.Path.{_≡_};
-ghost use Rattle.scheduler.specs.Calls.{openCalled, openStore};
-ghost use Rattle.layout.specs.Layout.{held, schedulerIn};
-ghost use Rattle.layout.specs.Left.{openLeft};
-ghost use Rattle.outcomes.specs.Told.{numberBy, placeBy};
+ghost use Rattle.sched_state.specs.Calls.{openCalled, openStore};
+ghost use Rattle.sched_rows.specs.Layout.{held, schedulerIn};
+ghost use Rattle.sched_rows.specs.Left.{openLeft};
+ghost use Rattle.c_told.specs.Told.{numberBy, placeBy};
 
 #[no_mangle]
 pub extern "C" fn fbk_open_lent(
@@ -26,7 +26,7 @@ pub extern "C" fn fbk_open_lent(
     ensures { λ _. ⌜ now (store .exit) ≡ openStore (schedulerIn (held (now (words .entry)) (now (kinds .entry)) (now (places .entry)) (now (marks .entry)) (now (secret .entry)) size address (now (name .entry)) label)) (now (packet .entry)) (now (store .entry)) ⌝ }
     ensures { λ _. ⌜ now (job .exit) ≡ placeBy (openCalled (schedulerIn (held (now (words .entry)) (now (kinds .entry)) (now (places .entry)) (now (marks .entry)) (now (secret .entry)) size address (now (name .entry)) label)) (now (packet .entry)) clock (now (store .entry)) .outcome) (now (job .entry)) ⌝ }
 {
-    opening::open(
+    sched_open::open(
         words,
         kinds,
         places,

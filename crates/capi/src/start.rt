@@ -1,11 +1,11 @@
 // Starting a session, as C calls it: what C holds is lent as arrays.
 ghost use mathlib.Core.Path.{_≡_};
-ghost use Rattle.records.specs.Record.{sessionOf};
-ghost use Rattle.sessions.specs.Session.{insertTable};
-ghost use Rattle.scheduler.specs.Calls.{startCalled};
-ghost use Rattle.layout.specs.Layout.{held, schedulerIn};
-ghost use Rattle.layout.specs.Left.{startLeft};
-ghost use Rattle.outcomes.specs.Told.{numberBy, placeBy};
+ghost use Rattle.table_records.specs.Record.{sessionOf};
+ghost use Rattle.table_sessions.specs.Session.{insertTable};
+ghost use Rattle.sched_state.specs.Calls.{startCalled};
+ghost use Rattle.sched_rows.specs.Layout.{held, schedulerIn};
+ghost use Rattle.sched_rows.specs.Left.{startLeft};
+ghost use Rattle.c_told.specs.Told.{numberBy, placeBy};
 
 #[no_mangle]
 pub extern "C" fn fbk_start_lent(
@@ -34,7 +34,7 @@ pub extern "C" fn fbk_start_lent(
     ensures { λ _. ⌜ now (table .exit) ≡ insertTable (sessionOf port framed timeout idle (now (user .entry)) (now (id .entry)) (now (station .entry)) (now (filter .entry))) (now (table .entry)) ⌝ }
     ensures { λ _. ⌜ now (slot .exit) ≡ placeBy (startCalled (schedulerIn (held (now (words .entry)) (now (kinds .entry)) (now (places .entry)) (now (marks .entry)) (now (secret .entry)) size address (now (name .entry)) label)) (sessionOf port framed timeout idle (now (user .entry)) (now (id .entry)) (now (station .entry)) (now (filter .entry))) (now (table .entry)) .outcome) (now (slot .entry)) ⌝ }
 {
-    starting::start(
+    sched_start::start(
         words,
         kinds,
         places,

@@ -1,9 +1,9 @@
 // A step of a job, as C calls it: what C holds is lent as arrays.
 ghost use mathlib.Core.Path.{_≡_};
-ghost use Rattle.scheduler.specs.Calls.{stepCalled, stepTable, stepReply};
-ghost use Rattle.layout.specs.Layout.{held, schedulerIn};
-ghost use Rattle.layout.specs.Left.{stepLeft};
-ghost use Rattle.outcomes.specs.Told.{told, toldBy};
+ghost use Rattle.sched_state.specs.Calls.{stepCalled, stepTable, stepReply};
+ghost use Rattle.sched_rows.specs.Layout.{held, schedulerIn};
+ghost use Rattle.sched_rows.specs.Left.{stepLeft};
+ghost use Rattle.c_told.specs.Told.{told, toldBy};
 
 #[no_mangle]
 pub extern "C" fn fbk_step_lent(
@@ -30,7 +30,7 @@ pub extern "C" fn fbk_step_lent(
     ensures { λ _. ⌜ now (table .exit) ≡ stepTable (schedulerIn (held (now (words .entry)) (now (kinds .entry)) (now (places .entry)) (now (marks .entry)) (now (secret .entry)) size address (now (name .entry)) label)) job (now (table .entry)) (now (reply .entry)) (now (store .entry)) ⌝ }
     ensures { λ _. ⌜ now (reply .exit) ≡ stepReply (schedulerIn (held (now (words .entry)) (now (kinds .entry)) (now (places .entry)) (now (marks .entry)) (now (secret .entry)) size address (now (name .entry)) label)) job (now (table .entry)) (now (reply .entry)) (now (store .entry)) ⌝ }
 {
-    stepping::step(
+    sched_step::step(
         words,
         kinds,
         places,

@@ -8,10 +8,10 @@ use native.Mathlib.Omega.{arith}
 use borrow.Author.Tests.{eq-eqb, ne-eqb, le-leb, lt-leb, lt-ltb, le-ltb, leb-true, leb-false}
 use lib.Dec.{leb}
 use lib.ListN.{length}
-use Rattle.octets.specs.Numbers.{be, beBytes}
-use Rattle.octets.specs.Runs.{part, write, equalBytes}
-use Rattle.octets.proofs.Part.{part-whole}
-use Rattle.octets.proofs.Write.{write-whole}
+use Rattle.octet_numbers.specs.Numbers.{be, beBytes}
+use Rattle.octet_numbers.specs.Runs.{part, write, equalBytes}
+use Rattle.octet_numbers.proofs.Part.{part-whole}
+use Rattle.octet_numbers.proofs.Write.{write-whole}
 use Rattle.probe.specs.Probe.{digestRoom, cutOk, inside, numberOk, putOk}
 
 -- b is the test of a call

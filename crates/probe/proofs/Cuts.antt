@@ -7,11 +7,11 @@ use native.Mathlib.Nat.{zero-add}
 use native.Mathlib.Omega.{arith}
 use lib.ListN.{length, take, drop, length-take, length-drop, take-append-drop}
 use lib.Seq.{take-all, take-add, length-take-le}
-use Rattle.md5.specs.declared.State.{State}
-use Rattle.md5.specs.Md5.{initial, md5}
-use Rattle.digest.specs.Held.{Held}
-use Rattle.digest.proofs.Pieces.{held-as, held-none}
-use Rattle.hmac.specs.Hmac.{innerPad, hmac}
+use Rattle.md5_ops.specs.declared.State.{State}
+use Rattle.md5_ops.specs.Md5.{initial, md5}
+use Rattle.md5_digest.specs.Held.{Held}
+use Rattle.md5_digest.proofs.Pieces.{held-as, held-none}
+use Rattle.md5_hmac.specs.Hmac.{innerPad, hmac}
 
 -- the bytes of m from i to e
 abbrev between : ℕ → ℕ → List ℕ → List ℕ

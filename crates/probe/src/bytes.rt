@@ -4,7 +4,7 @@ ghost use mathlib.Core.Bool.{cond, _&&_};
 ghost use Prim.Native.Nat.{_+_};
 ghost use lib.Dec.{leb};
 ghost use lib.ListN.{length, replicate};
-ghost use Rattle.octets.specs.Runs.{write, equalBytes};
+ghost use Rattle.octet_numbers.specs.Runs.{write, equalBytes};
 ghost use Rattle.probe.specs.Probe.{answer, written, inside, digestRoom};
 
 // Whether n bytes from place at on lie in len bytes.
@@ -22,7 +22,7 @@ pub fn lies_in(len: usize, at: usize, n: usize) -> bool
 pub extern "C" fn probe_equal(a: &[u8], b: &[u8]) -> u32
     ensures { λ r. ⌜ r ≡ cond (equalBytes (now (a .entry)) (now (b .entry))) 1 0 ⌝ }
 {
-    if runs::equal(a, b) {
+    if octet_runs::equal(a, b) {
         return 1;
     }
     0
@@ -39,7 +39,7 @@ pub extern "C" fn probe_equal16(a: &[u8], b: &[u8]) -> u32
     if b.len() != 16 {
         return 2;
     }
-    if runs::equal16(a, 0, b, 0) {
+    if octet_runs::equal16(a, 0, b, 0) {
         return 1;
     }
     0
@@ -52,7 +52,7 @@ pub extern "C" fn probe_copy(t: &mut [u8], at: usize, v: &[u8]) -> u32
     ensures { λ r. ⌜ now (t .exit) ≡ written (inside at (length (now (v .entry))) (now (t .entry))) (write (now (t .entry)) at (now (v .entry))) (now (t .entry)) ⌝ }
 {
     if lies_in(t.len(), at, v.len()) {
-        copies::copy(t, at, v);
+        octet_copies::copy(t, at, v);
         return 0;
     }
     1
@@ -65,7 +65,7 @@ pub extern "C" fn probe_fill(t: &mut [u8], at: usize, count: usize, x: u8) -> u3
     ensures { λ r. ⌜ now (t .exit) ≡ written (inside at count (now (t .entry))) (write (now (t .entry)) at (replicate count x)) (now (t .entry)) ⌝ }
 {
     if lies_in(t.len(), at, count) {
-        copies::fill(t, at, count, x);
+        octet_copies::fill(t, at, count, x);
         return 0;
     }
     1

@@ -5,8 +5,8 @@ mod numbers;
 ghost use mathlib.Core.Path.{_≡_};
 ghost use Prim.Native.Nat.{_≤_};
 ghost use lib.ListN.{length};
-ghost use Rattle.md5.specs.Md5.{md5};
-ghost use Rattle.hmac.specs.Hmac.{hmac};
+ghost use Rattle.md5_ops.specs.Md5.{md5};
+ghost use Rattle.md5_hmac.specs.Hmac.{hmac};
 ghost use Rattle.probe.specs.Probe.{answer, written, digestRoom, cutOk};
 
 // MD5 of a message in one piece.
@@ -18,8 +18,8 @@ pub extern "C" fn probe_md5(m: &[u8], out: &mut [u8]) -> u32
     if out.len() != 16 {
         return 1;
     }
-    let d = digest::of(m);
-    copies::copy(out, 0, &d);
+    let d = md5_digest::of(m);
+    octet_copies::copy(out, 0, &d);
     0
 }
 
@@ -32,8 +32,8 @@ pub extern "C" fn probe_hmac(key: &[u8], m: &[u8], out: &mut [u8]) -> u32
     if out.len() != 16 {
         return 1;
     }
-    let d = hmac::of(key, m);
-    copies::copy(out, 0, &d);
+    let d = md5_hmac::of(key, m);
+    octet_copies::copy(out, 0, &d);
     0
 }
 
@@ -43,10 +43,10 @@ fn md5_cut(m: &[u8], a: usize, b: usize) -> [u8; 16]
     ensures { λ r. ⌜ r ≡ md5 (now (m .entry)) ⌝ }
 {
     let mut buf = [0u8; 64];
-    let q = digest::update(&mut buf, md5::initial(), 0, &m[..a]);
-    let q = digest::update(&mut buf, q, a, &m[a..b]);
-    let q = digest::update(&mut buf, q, b, &m[b..]);
-    digest::finish(&mut buf, q, m.len())
+    let q = md5_digest::update(&mut buf, md5_ops::initial(), 0, &m[..a]);
+    let q = md5_digest::update(&mut buf, q, a, &m[a..b]);
+    let q = md5_digest::update(&mut buf, q, b, &m[b..]);
+    md5_digest::finish(&mut buf, q, m.len())
 }
 
 // HMAC-MD5 of a message in three pieces.
@@ -56,10 +56,10 @@ fn hmac_cut(key: &[u8], m: &[u8], a: usize, b: usize) -> [u8; 16]
 {
     let held = 64 + m.len();
     let mut buf = [0u8; 64];
-    let q = digest::update(&mut buf, hmac::start(key), 64, &m[..a]);
-    let q = digest::update(&mut buf, q, 64 + a, &m[a..b]);
-    let q = digest::update(&mut buf, q, 64 + b, &m[b..]);
-    hmac::finish(&mut buf, q, held, key)
+    let q = md5_digest::update(&mut buf, md5_hmac::start(key), 64, &m[..a]);
+    let q = md5_digest::update(&mut buf, q, 64 + a, &m[a..b]);
+    let q = md5_digest::update(&mut buf, q, 64 + b, &m[b..]);
+    md5_hmac::finish(&mut buf, q, held, key)
 }
 
 // MD5 of a message handed over as m[..a], m[a..b], m[b..].
@@ -78,7 +78,7 @@ pub extern "C" fn probe_md5_cut(m: &[u8], a: usize, b: usize, out: &mut [u8]) ->
         return 1;
     }
     let d = md5_cut(m, a, b);
-    copies::copy(out, 0, &d);
+    octet_copies::copy(out, 0, &d);
     0
 }
 
@@ -98,6 +98,6 @@ pub extern "C" fn probe_hmac_cut(key: &[u8], m: &[u8], a: usize, b: usize, out: 
         return 1;
     }
     let d = hmac_cut(key, m, a, b);
-    copies::copy(out, 0, &d);
+    octet_copies::copy(out, 0, &d);
     0
 }

@@ -1,8 +1,8 @@
 // Numbers of two and of four bytes, high byte first.
 ghost use mathlib.Core.Path.{_≡_};
 ghost use mathlib.Core.Bool.{cond};
-ghost use Rattle.octets.specs.Numbers.{be, beBytes};
-ghost use Rattle.octets.specs.Runs.{write};
+ghost use Rattle.octet_numbers.specs.Numbers.{be, beBytes};
+ghost use Rattle.octet_numbers.specs.Runs.{write};
 ghost use Rattle.probe.specs.Probe.{answer, written, numberOk, putOk};
 use crate::bytes::lies_in;
 
@@ -14,11 +14,11 @@ pub extern "C" fn probe_number(s: &[u8], at: usize, width: u32, value: &mut u32)
 {
     if lies_in(s.len(), at, width as usize) {
         if width == 2 {
-            *value = octets::be16(s, at) as u32;
+            *value = octet_numbers::be16(s, at) as u32;
             return 0;
         }
         if width == 4 {
-            *value = octets::be32(s, at);
+            *value = octet_numbers::be32(s, at);
             return 0;
         }
         return 1;
@@ -34,14 +34,14 @@ pub extern "C" fn probe_put(t: &mut [u8], at: usize, width: u32, v: u32) -> u32
 {
     if lies_in(t.len(), at, width as usize) {
         if width == 4 {
-            octets::put_be32(t, at, v);
+            octet_numbers::put_be32(t, at, v);
             return 0;
         }
         if width != 2 {
             return 1;
         }
         if v < 65536 {
-            octets::put_be16(t, at, v as u16);
+            octet_numbers::put_be16(t, at, v as u16);
             return 0;
         }
         return 1;

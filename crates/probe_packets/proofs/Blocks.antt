@@ -6,11 +6,11 @@ use Prim.Native.Nat.{ℕ, _+_, _<_, _≤_}
 use native.Mathlib.Numerals.{add-one}
 use native.Mathlib.Omega.{arith}
 use lib.ListN.{length}
-use Rattle.md5.specs.declared.State.{State}
-use Rattle.md5.specs.Md5.{initial, output}
-use Rattle.signing.specs.Signing.{zeros, authenticator}
-use Rattle.blockwise.specs.Block.{blockCount, hashed, hashedTo}
-use Rattle.blockwise.proofs.Stepwise.{blocks-none, blocks-more, blocks-all}
+use Rattle.md5_ops.specs.declared.State.{State}
+use Rattle.md5_ops.specs.Md5.{initial, output}
+use Rattle.packet_auth.specs.Signing.{zeros, authenticator}
+use Rattle.packet_blocks.specs.Block.{blockCount, hashed, hashedTo}
+use Rattle.packet_blocks.proofs.Stepwise.{blocks-none, blocks-more, blocks-all}
 
 module _ (p : List ℕ) (n : ℕ) (secret : List ℕ) where
   pub words-none : (q : State) → q ≡ initial → q ≡ hashedTo 0 p n secret

@@ -4,13 +4,13 @@ use mathlib.Core.Path.{_≡_}
 use mathlib.Core.List.{List}
 use Prim.Native.Nat.{ℕ, _+_}
 use lib.IntN.{ℤ, pos}
-use Rattle.causes.specs.declared.Cause.{Cause}
-use Rattle.causes.specs.Causes.{errorCause}
-use Rattle.rules.specs.declared.Verdict as D
-use Rattle.rules.specs.declared.Verdict.the-variants.{Discarded, Stale, Nak, Passed}
-use Rattle.settings.specs.Settings.{Settings}
-use Rattle.rules.specs.Discards.{signedBy}
-use Rattle.rules.specs.Verdict.{verdictOf}
+use Rattle.rule_causes.specs.declared.Cause.{Cause}
+use Rattle.rule_causes.specs.Causes.{errorCause}
+use Rattle.rule_verdict.specs.declared.Verdict as D
+use Rattle.rule_verdict.specs.declared.Verdict.the-variants.{Discarded, Stale, Nak, Passed}
+use Rattle.nas_settings.specs.Settings.{Settings}
+use Rattle.rule_verdict.specs.Discards.{signedBy}
+use Rattle.rule_verdict.specs.Verdict.{verdictOf}
 use Rattle.probe_packets.specs.Told.{verdict, numberOf, skewOf, stampedOf}
 
 module _ (g : Settings) (p : List ℕ) (clock : ℕ) (v : D.Verdict) (judged : v ≡ verdictOf g (signedBy (g .secret) p) p clock) where

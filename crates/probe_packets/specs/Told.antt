@@ -3,12 +3,12 @@
 use mathlib.Core.List.{List}
 use Prim.Native.Nat.{ℕ, _+_}
 use lib.IntN.{ℤ, pos}
-use Rattle.causes.specs.Causes.{errorCause}
-use Rattle.rules.specs.declared.Verdict as D
-use Rattle.rules.specs.declared.Verdict.the-variants.{Discarded, Stale, Nak, Passed}
-use Rattle.settings.specs.Settings.{Settings}
-use Rattle.rules.specs.Discards.{signedBy}
-use Rattle.rules.specs.Verdict.{verdictOf}
+use Rattle.rule_causes.specs.Causes.{errorCause}
+use Rattle.rule_verdict.specs.declared.Verdict as D
+use Rattle.rule_verdict.specs.declared.Verdict.the-variants.{Discarded, Stale, Nak, Passed}
+use Rattle.nas_settings.specs.Settings.{Settings}
+use Rattle.rule_verdict.specs.Discards.{signedBy}
+use Rattle.rule_verdict.specs.Verdict.{verdictOf}
 
 -- the verdict on a packet by its own signature
 unfoldable pub verdict : Settings → List ℕ → ℕ → D.Verdict

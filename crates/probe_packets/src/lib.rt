@@ -4,7 +4,7 @@ mod verdict; // verdict.rt: the verdict on a request, in numbers
 ghost use mathlib.Core.Path.{_≡_};
 ghost use Prim.Native.Nat.{_≤_};
 ghost use lib.ListN.{length};
-ghost use Rattle.signing.specs.Signing.{zeros, authenticator, messageAuthenticator};
+ghost use Rattle.packet_auth.specs.Signing.{zeros, authenticator, messageAuthenticator};
 ghost use Rattle.probe.specs.Probe.{answer, written};
 ghost use Rattle.probe_packets.specs.Refused.{authOk, macOk, blocksOk};
 
@@ -32,8 +32,8 @@ pub extern "C" fn probe_authenticator(
     if p.len() < n {
         return 1;
     }
-    let d = signing::authenticator(p, n, auth, secret);
-    copies::copy(out, 0, &d);
+    let d = packet_auth::authenticator(p, n, auth, secret);
+    octet_copies::copy(out, 0, &d);
     0
 }
 
@@ -68,8 +68,8 @@ pub extern "C" fn probe_mac(
     if p.len() < n {
         return 1;
     }
-    let d = macs::message_authenticator(p, n, auth, at, secret);
-    copies::copy(out, 0, &d);
+    let d = packet_mac::message_authenticator(p, n, auth, at, secret);
+    octet_copies::copy(out, 0, &d);
     0
 }
 
@@ -78,14 +78,14 @@ fn by_blocks(p: &[u8], n: usize, secret: &[u8]) -> [u8; 16]
     requires { ⌜ (20 ≤ n) × (n ≤ length (now p)) × (n ≤ 4096) × (length (now secret) ≤ 64) ⌝ }
     ensures { λ r. ⌜ r ≡ authenticator zeros (now (p .entry)) n (now (secret .entry)) ⌝ }
 {
-    let e = blockwise::block_count(n + secret.len());
-    let mut q = md5::initial();
+    let e = packet_blocks::block_count(n + secret.len());
+    let mut q = md5_ops::initial();
     let mut k = 0;
     while k < e {
-        q = blockwise::hash_block(q, p, n, secret, k);
+        q = packet_blocks::hash_block(q, p, n, secret, k);
         k += 1;
     }
-    endings::bytes_of(q)
+    md5_padding::bytes_of(q)
 }
 
 // The authenticator of a request of Length n, worked out block by block.
@@ -110,6 +110,6 @@ pub extern "C" fn probe_blocks(p: &[u8], n: usize, secret: &[u8], out: &mut [u8]
         return 1;
     }
     let d = by_blocks(p, n, secret);
-    copies::copy(out, 0, &d);
+    octet_copies::copy(out, 0, &d);
     0
 }

@@ -2,12 +2,12 @@
 ghost use mathlib.Core.Path.{_≡_};
 ghost use mathlib.Core.Bool.{true};
 ghost use Prim.Native.Nat.{_+_};
-ghost use Rattle.packets.specs.Discards.{Sized};
-ghost use Rattle.settings.specs.Settings.{settings};
-ghost use Rattle.rules.specs.Discards.{signedBy};
-ghost use Rattle.rules.specs.Verdict.{checkVerdict, verdictOf};
+ghost use Rattle.packet_form.specs.Discards.{Sized};
+ghost use Rattle.nas_settings.specs.Settings.{settings};
+ghost use Rattle.rule_verdict.specs.Discards.{signedBy};
+ghost use Rattle.rule_verdict.specs.Verdict.{checkVerdict, verdictOf};
 ghost use Rattle.probe_packets.specs.Told.{verdict, numberOf, skewOf, stampedOf};
-use rules::Verdict;
+use rule_verdict::Verdict;
 
 // D5, D6 and causes 1 to 6 of a request that is rightly signed.
 fn check_signed(p: &[u8], n: usize, secret: &[u8], address: u32, name: &[u8], clock: u32) -> Verdict
@@ -17,9 +17,9 @@ fn check_signed(p: &[u8], n: usize, secret: &[u8], address: u32, name: &[u8], cl
     let mut count = [0u8; 256];
     let mut ends = [0u16; 256];
     let mut sizes = [0u8; 256];
-    let s = runs::slice(p, 20, n - 20);
-    let f = survey::survey(s, p[0], &mut count, &mut ends, &mut sizes);
-    rules::check(
+    let s = octet_runs::slice(p, 20, n - 20);
+    let f = attr_survey::survey(s, p[0], &mut count, &mut ends, &mut sizes);
+    rule_verdict::check(
         p,
         n,
         true,
@@ -34,16 +34,16 @@ fn check_signed(p: &[u8], n: usize, secret: &[u8], address: u32, name: &[u8], cl
     )
 }
 
-// D1 to D6 and causes 1 to 6 of a packet, as `handler::handle` asks for them before any session.
+// D1 to D6 and causes 1 to 6 of a packet, as `das_handle::handle` asks for them before any session.
 fn judge(p: &[u8], secret: &[u8], address: u32, name: &[u8], clock: u32) -> Verdict
     ensures { λ r. ⌜ r ≡ verdictOf (settings (now (secret .entry)) address (now (name .entry))) (signedBy (now (secret .entry)) (now (p .entry))) (now (p .entry)) clock ⌝ }
 {
-    let d = packets::form(p);
+    let d = packet_form::form(p);
     if d != 0 {
         return Verdict::Discarded(d);
     }
-    let n = packets::length_of(p);
-    if signing::request_signed(p, n, secret) {
+    let n = packet_form::length_of(p);
+    if packet_auth::request_signed(p, n, secret) {
         return check_signed(p, n, secret, address, name, clock);
     }
     Verdict::Discarded(4)
@@ -85,7 +85,7 @@ pub extern "C" fn probe_verdict(
         Verdict::Nak(cause, k) => {
             *skew = k;
             *stamped = 1;
-            causes::error_cause(cause)
+            rule_causes::error_cause(cause)
         }
         Verdict::Passed(k) => {
             *skew = k;

@@ -7,18 +7,18 @@ use Prim.Native.Nat.{ℕ, _^_, _<_}
 use native.Mathlib.Omega.{arith}
 use borrow.Author.Tests.{eq-eqb, ne-eqb}
 use lib.ListN.{length}
-use Rattle.records.specs.Record.{Session}
-use Rattle.slots.specs.Slot.{slotCount}
-use Rattle.slots.proofs.Count.{counted}
-use Rattle.criteria.proofs.Marked.{count-most}
-use Rattle.sessions.specs.declared.Inserted.{Inserted}
-use Rattle.sessions.specs.declared.Inserted.the-variants.{Slot, NotInserted}
-use Rattle.sessions.specs.declared.Removed.{Removed}
-use Rattle.sessions.specs.declared.Removed.the-variants.{Gone, NotRemoved}
-use Rattle.changes.specs.Change.{marked, countMarked}
-use Rattle.sessions.specs.Session.{insertAnswer}
-use Rattle.sessions.proofs.Free.{free-most}
-use Rattle.sessions.proofs.Starts.{started}
+use Rattle.table_records.specs.Record.{Session}
+use Rattle.table_slots.specs.Slot.{slotCount}
+use Rattle.table_slots.proofs.Count.{counted}
+use Rattle.table_criteria.proofs.Marked.{count-most}
+use Rattle.table_sessions.specs.declared.Inserted.{Inserted}
+use Rattle.table_sessions.specs.declared.Inserted.the-variants.{Slot, NotInserted}
+use Rattle.table_sessions.specs.declared.Removed.{Removed}
+use Rattle.table_sessions.specs.declared.Removed.the-variants.{Gone, NotRemoved}
+use Rattle.table_change.specs.Change.{marked, countMarked}
+use Rattle.table_sessions.specs.Session.{insertAnswer}
+use Rattle.table_sessions.proofs.Free.{free-most}
+use Rattle.table_sessions.proofs.Starts.{started}
 use Rattle.probe_table.specs.Answers.{marksRoom, insertNumber, insertSlot, removeNumber}
 
 -- ---- a test as a number: r is the code's, b the definition's

@@ -5,15 +5,15 @@ use mathlib.Core.List.{List, [], _∷_}
 use Prim.Native.Nat.{ℕ, _+_, _/_}
 use borrow.Author.Tests.{eq-eqb, ne-eqb}
 use lib.ListN.{length, getD}
-use Rattle.criteria.specs.declared.Criteria.{Criteria}
-use Rattle.criteria.specs.declared.Criterion.{Criterion}
-use Rattle.criteria.specs.declared.Field.{Field}
-use Rattle.criteria.specs.declared.Field.the-variants.{UserName, NasPort, FramedAddress, CallingStation, SessionId}
-use Rattle.changes.specs.declared.Change.the-variants.{End, Alter}
-use Rattle.changes.specs.declared.Number.{Number}
-use Rattle.changes.specs.declared.Number.the-variants.{Keep, Set}
-use Rattle.changes.specs.declared.Text.{Text}
-use Rattle.changes.specs.declared.Text.the-variants.{Same, Value}
+use Rattle.table_criteria.specs.declared.Criteria.{Criteria}
+use Rattle.table_criteria.specs.declared.Criterion.{Criterion}
+use Rattle.table_criteria.specs.declared.Field.{Field}
+use Rattle.table_criteria.specs.declared.Field.the-variants.{UserName, NasPort, FramedAddress, CallingStation, SessionId}
+use Rattle.table_change.specs.declared.Change.the-variants.{End, Alter}
+use Rattle.table_change.specs.declared.Number.{Number}
+use Rattle.table_change.specs.declared.Number.the-variants.{Keep, Set}
+use Rattle.table_change.specs.declared.Text.{Text}
+use Rattle.table_change.specs.declared.Text.the-variants.{Same, Value}
 use Rattle.probe_table.specs.Given.{fieldOf, criterionAt, criteriaOf, numberOf, textOf, changeOf}
 
 -- ---- the field of a number

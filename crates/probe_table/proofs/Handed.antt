@@ -5,15 +5,15 @@ use mathlib.Core.Bool.{Bool, true, false}
 use mathlib.Core.List.{List}
 use Prim.Native.Nat.{ℕ}
 use lib.ListN.{length}
-use Rattle.octets.specs.Runs.{write}
-use Rattle.octets.proofs.Write.{write-whole}
-use Rattle.criteria.specs.declared.Criteria.{Criteria}
-use Rattle.slots.specs.Slot.{slotCount}
-use Rattle.criteria.specs.Matching.{listed, matchesAt}
-use Rattle.criteria.specs.Marks.{marksAfter}
-use Rattle.criteria.proofs.Marked.{length-marks}
-use Rattle.changes.specs.declared.Change.{Change}
-use Rattle.changes.specs.Change.{changeMarked, countMarked}
+use Rattle.octet_numbers.specs.Runs.{write}
+use Rattle.octet_numbers.proofs.Write.{write-whole}
+use Rattle.table_criteria.specs.declared.Criteria.{Criteria}
+use Rattle.table_slots.specs.Slot.{slotCount}
+use Rattle.table_criteria.specs.Matching.{listed, matchesAt}
+use Rattle.table_criteria.specs.Marks.{marksAfter}
+use Rattle.table_criteria.proofs.Marked.{length-marks}
+use Rattle.table_change.specs.declared.Change.{Change}
+use Rattle.table_change.specs.Change.{changeMarked, countMarked}
 use Rattle.probe_table.specs.Answers.{truth}
 use Rattle.probe_table.proofs.Answers.{so, not-so}
 

@@ -5,10 +5,10 @@ use mathlib.Core.List.{List}
 use Prim.Native.Nat.{ℕ}
 use lib.Dec.{eqb}
 use lib.ListN.{length}
-use Rattle.sessions.specs.declared.Inserted.{Inserted}
-use Rattle.sessions.specs.declared.Inserted.the-variants.{Slot, NotInserted}
-use Rattle.sessions.specs.declared.Removed.{Removed}
-use Rattle.sessions.specs.declared.Removed.the-variants.{Gone, NotRemoved}
+use Rattle.table_sessions.specs.declared.Inserted.{Inserted}
+use Rattle.table_sessions.specs.declared.Inserted.the-variants.{Slot, NotInserted}
+use Rattle.table_sessions.specs.declared.Removed.{Removed}
+use Rattle.table_sessions.specs.declared.Removed.the-variants.{Gone, NotRemoved}
 
 -- 0 done, 1 refused
 abbrev pub answer : Bool → ℕ

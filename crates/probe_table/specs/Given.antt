@@ -5,16 +5,16 @@ use mathlib.Core.List.{List, [], _∷_}
 use Prim.Native.Nat.{ℕ, _+_, _/_}
 use lib.Dec.{eqb}
 use lib.ListN.{length, getD}
-use Rattle.criteria.specs.declared.Criteria.{Criteria}
-use Rattle.criteria.specs.declared.Criterion.{Criterion}
-use Rattle.criteria.specs.declared.Field.{Field}
-use Rattle.criteria.specs.declared.Field.the-variants.{UserName, NasPort, FramedAddress, CallingStation, SessionId}
-use Rattle.changes.specs.declared.Change.{Change}
-use Rattle.changes.specs.declared.Change.the-variants.{End, Alter}
-use Rattle.changes.specs.declared.Number.{Number}
-use Rattle.changes.specs.declared.Number.the-variants.{Keep, Set}
-use Rattle.changes.specs.declared.Text.{Text}
-use Rattle.changes.specs.declared.Text.the-variants.{Same, Value}
+use Rattle.table_criteria.specs.declared.Criteria.{Criteria}
+use Rattle.table_criteria.specs.declared.Criterion.{Criterion}
+use Rattle.table_criteria.specs.declared.Field.{Field}
+use Rattle.table_criteria.specs.declared.Field.the-variants.{UserName, NasPort, FramedAddress, CallingStation, SessionId}
+use Rattle.table_change.specs.declared.Change.{Change}
+use Rattle.table_change.specs.declared.Change.the-variants.{End, Alter}
+use Rattle.table_change.specs.declared.Number.{Number}
+use Rattle.table_change.specs.declared.Number.the-variants.{Keep, Set}
+use Rattle.table_change.specs.declared.Text.{Text}
+use Rattle.table_change.specs.declared.Text.the-variants.{Same, Value}
 
 -- the field of a number: 0 to 3 in the order of their attributes' types, any other the last
 unfoldable pub fieldOf : ℕ → Field

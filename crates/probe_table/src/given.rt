@@ -22,30 +22,30 @@ fn byte(s: &[u8], i: usize) -> usize
 }
 
 // The field of a number.
-fn field_of(n: usize) -> criteria::Field
+fn field_of(n: usize) -> table_criteria::Field
     ensures { λ r. ⌜ r ≡ fieldOf n ⌝ }
 {
     if n == 0 {
-        return criteria::Field::UserName;
+        return table_criteria::Field::UserName;
     }
     if n == 1 {
-        return criteria::Field::NasPort;
+        return table_criteria::Field::NasPort;
     }
     if n == 2 {
-        return criteria::Field::FramedAddress;
+        return table_criteria::Field::FramedAddress;
     }
     if n == 3 {
-        return criteria::Field::CallingStation;
+        return table_criteria::Field::CallingStation;
     }
-    criteria::Field::SessionId
+    table_criteria::Field::SessionId
 }
 
 // The criterion in three bytes at place i.
-fn criterion_at(s: &[u8], i: usize) -> criteria::Criterion
+fn criterion_at(s: &[u8], i: usize) -> table_criteria::Criterion
     requires { ⌜ i < 64 ⌝ }
     ensures { λ r. ⌜ r ≡ criterionAt i (now (s .entry)) ⌝ }
 {
-    criteria::Criterion {
+    table_criteria::Criterion {
         field: field_of(byte(s, i)),
         at: byte(s, i + 1),
         size: byte(s, i + 2),
@@ -53,7 +53,7 @@ fn criterion_at(s: &[u8], i: usize) -> criteria::Criterion
 }
 
 // The criteria in the bytes s.
-pub fn criteria_of(s: &[u8]) -> criteria::Criteria
+pub fn criteria_of(s: &[u8]) -> table_criteria::Criteria
     ensures { λ r. ⌜ r ≡ criteriaOf (now (s .entry)) ⌝ }
 {
     let a = criterion_at(s, 0);
@@ -61,30 +61,30 @@ pub fn criteria_of(s: &[u8]) -> criteria::Criteria
     let c = criterion_at(s, 6);
     let d = criterion_at(s, 9);
     let e = criterion_at(s, 12);
-    criteria::Criteria {
+    table_criteria::Criteria {
         count: s.len() / 3,
         list: [a, b, c, d, e],
     }
 }
 
 // A number that is set where the flag is not 0.
-fn number_of(set: u32, v: u32) -> changes::Number
+fn number_of(set: u32, v: u32) -> table_change::Number
     ensures { λ r. ⌜ r ≡ numberOf set v ⌝ }
 {
     if set == 0 {
-        return changes::Number::Keep;
+        return table_change::Number::Keep;
     }
-    changes::Number::Set(v)
+    table_change::Number::Set(v)
 }
 
 // A text that is set where the flag is not 0.
-fn text_of(set: u32, at: usize, size: usize) -> changes::Text
+fn text_of(set: u32, at: usize, size: usize) -> table_change::Text
     ensures { λ r. ⌜ r ≡ textOf set at size ⌝ }
 {
     if set == 0 {
-        return changes::Text::Same;
+        return table_change::Text::Same;
     }
-    changes::Text::Value(at, size)
+    table_change::Text::Value(at, size)
 }
 
 // The end of a session where the flag is not 0, else what is set.
@@ -97,16 +97,16 @@ pub fn change_of(
     filtered: u32,
     at: usize,
     size: usize,
-) -> changes::Change
+) -> table_change::Change
     ensures { λ r. ⌜ r ≡ changeOf end timed timeout idled idle filtered at size ⌝ }
 {
     if end != 0 {
-        return changes::Change::End;
+        return table_change::Change::End;
     }
-    let a = changes::Alteration {
+    let a = table_change::Alteration {
         timeout: number_of(timed, timeout),
         idle: number_of(idled, idle),
         filter: text_of(filtered, at, size),
     };
-    changes::Change::Alter(a)
+    table_change::Change::Alter(a)
 }

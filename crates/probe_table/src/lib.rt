@@ -4,9 +4,9 @@ mod writes;
 
 ghost use mathlib.Core.Path.{_≡_};
 ghost use mathlib.Core.Bool.{cond};
-ghost use Rattle.slots.specs.Slot.{slotCount, slot, live};
-ghost use Rattle.criteria.specs.Matching.{listed, matchesAt};
-ghost use Rattle.criteria.specs.Marks.{marksAfter};
+ghost use Rattle.table_slots.specs.Slot.{slotCount, slot, live};
+ghost use Rattle.table_criteria.specs.Matching.{listed, matchesAt};
+ghost use Rattle.table_criteria.specs.Marks.{marksAfter};
 ghost use Rattle.probe_table.specs.Given.{criteriaOf};
 ghost use Rattle.probe_table.specs.Answers.{answer, truth, marksRoom};
 
@@ -15,7 +15,7 @@ ghost use Rattle.probe_table.specs.Answers.{answer, truth, marksRoom};
 pub extern "C" fn probe_table_count(t: &[u8]) -> u32
     ensures { λ r. ⌜ r ≡ slotCount (now (t .entry)) ⌝ }
 {
-    slots::slot_count(t) as u32
+    table_slots::slot_count(t) as u32
 }
 
 // 1 where slot k is live, else 0.
@@ -23,7 +23,7 @@ pub extern "C" fn probe_table_count(t: &[u8]) -> u32
 pub extern "C" fn probe_table_live(t: &[u8], k: usize) -> u32
     ensures { λ r. ⌜ r ≡ truth (live (slot k (now (t .entry)))) ⌝ }
 {
-    if slots::slot_live(t, k) {
+    if table_slots::slot_live(t, k) {
         return 1;
     }
     0
@@ -34,7 +34,7 @@ pub extern "C" fn probe_table_live(t: &[u8], k: usize) -> u32
 pub extern "C" fn probe_table_match(t: &[u8], k: usize, p: &[u8], criteria: &[u8]) -> u32
     ensures { λ r. ⌜ r ≡ truth (matchesAt (now (p .entry)) (listed (criteriaOf (now (criteria .entry)))) (now (t .entry)) k) ⌝ }
 {
-    if marking::match_slot(t, k, p, given::criteria_of(criteria)) {
+    if table_match::match_slot(t, k, p, given::criteria_of(criteria)) {
         return 1;
     }
     0
@@ -49,7 +49,7 @@ pub extern "C" fn probe_table_marks(t: &[u8], p: &[u8], criteria: &[u8], marks: 
     if marks.len() != 64 {
         return 1;
     }
-    let m = marking::mark_all(t, p, given::criteria_of(criteria));
-    copies::copy(marks, 0, &m);
+    let m = table_match::mark_all(t, p, given::criteria_of(criteria));
+    octet_copies::copy(marks, 0, &m);
     0
 }

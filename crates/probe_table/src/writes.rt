@@ -2,23 +2,23 @@
 ghost use mathlib.Core.Path.{_≡_};
 ghost use mathlib.Core.Bool.{cond};
 ghost use lib.ListN.{length};
-ghost use Rattle.records.specs.Record.{sessionOf};
-ghost use Rattle.slots.specs.Slot.{slotCount};
-ghost use Rattle.changes.specs.Change.{changeMarked, countMarked};
-ghost use Rattle.sessions.specs.Session.{insertAnswer, insertTable, removeAnswer, removeTable};
+ghost use Rattle.table_records.specs.Record.{sessionOf};
+ghost use Rattle.table_slots.specs.Slot.{slotCount};
+ghost use Rattle.table_change.specs.Change.{changeMarked, countMarked};
+ghost use Rattle.table_sessions.specs.Session.{insertAnswer, insertTable, removeAnswer, removeTable};
 ghost use Rattle.probe_table.specs.Given.{changeOf};
 ghost use Rattle.probe_table.specs.Answers.{answer, marksRoom, insertNumber, insertSlot, removeNumber};
 use crate::given::change_of;
 
 // Changes every slot that is marked and live, and says how many there are.
-fn change_all(t: &mut [u8], p: &[u8], marks: &[u8], c: changes::Change) -> u32
+fn change_all(t: &mut [u8], p: &[u8], marks: &[u8], c: table_change::Change) -> u32
     requires { ⌜ length (now marks) ≡ 64 ⌝ }
     ensures { λ r. ⌜ r ≡ countMarked (now (marks .entry)) (slotCount (now (t .entry))) (now (t .entry)) ⌝ }
     ensures { λ _. ⌜ now (t .exit) ≡ changeMarked (now (p .entry)) c (now (marks .entry)) (slotCount (now (t .entry))) (now (t .entry)) ⌝ }
 {
     let mut m = [0u8; 64];
-    copies::copy(&mut m, 0, marks);
-    changes::change_marked(t, p, &m, c) as u32
+    octet_copies::copy(&mut m, 0, marks);
+    table_change::change_marked(t, p, &m, c) as u32
 }
 
 // Ends or alters every slot that is marked and live; refused where there are not 64 marks.
@@ -67,13 +67,13 @@ pub extern "C" fn probe_table_insert(
     ensures { λ _. ⌜ now (t .exit) ≡ insertTable (sessionOf port address timeout idle (now (user .entry)) (now (id .entry)) (now (station .entry)) (now (filter .entry))) (now (t .entry)) ⌝ }
     ensures { λ _. ⌜ now (slot .exit) ≡ insertSlot (insertAnswer (sessionOf port address timeout idle (now (user .entry)) (now (id .entry)) (now (station .entry)) (now (filter .entry))) (now (t .entry))) (now (slot .entry)) ⌝ }
 {
-    let r = sessions::insert(t, port, address, timeout, idle, user, id, station, filter);
+    let r = table_sessions::insert(t, port, address, timeout, idle, user, id, station, filter);
     match r {
-        sessions::Inserted::Slot(k) => {
+        table_sessions::Inserted::Slot(k) => {
             *slot = k as u32;
             0
         }
-        sessions::Inserted::NotInserted(n) => n as u32,
+        table_sessions::Inserted::NotInserted(n) => n as u32,
     }
 }
 
@@ -83,9 +83,9 @@ pub extern "C" fn probe_table_remove(t: &mut [u8], k: usize) -> u32
     ensures { λ r. ⌜ r ≡ removeNumber (removeAnswer k (now (t .entry))) ⌝ }
     ensures { λ _. ⌜ now (t .exit) ≡ removeTable k (now (t .entry)) ⌝ }
 {
-    let r = sessions::remove(t, k);
+    let r = table_sessions::remove(t, k);
     match r {
-        sessions::Removed::Gone => 0,
-        sessions::Removed::NotRemoved(n) => n as u32,
+        table_sessions::Removed::Gone => 0,
+        table_sessions::Removed::NotRemoved(n) => n as u32,
     }
 }

@@ -7,8 +7,8 @@ use native.Mathlib.Numerals.{add-one}
 use native.Mathlib.Omega.{arith}
 use lib.ListN.{length, getD, set, take, replicate}
 use lib.Seq.{take-suc, take-all, length-take-le}
-use Rattle.octets.specs.Runs.{write}
-use Rattle.octets.proofs.Write.{write-nil, write-append, write-eq}
+use Rattle.octet_numbers.specs.Runs.{write}
+use Rattle.octet_numbers.proofs.Write.{write-nil, write-append, write-eq}
 use Rattle.vectors.specs.Hex.{digitOf, hexOf, hexLine}
 
 hex-append : (xs ys : List ℕ) → hexOf (xs ++ ys) ≡ hexOf xs ++ hexOf ys

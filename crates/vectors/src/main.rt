@@ -37,18 +37,18 @@ fn line(name: &[u8], d: [u8; 16]) {
 }
 
 fn md5_suite() {
-    line(b"MD5 1", digest::of(b""));
-    line(b"MD5 2", digest::of(b"a"));
-    line(b"MD5 3", digest::of(b"abc"));
-    line(b"MD5 4", digest::of(b"message digest"));
-    line(b"MD5 5", digest::of(b"abcdefghijklmnopqrstuvwxyz"));
+    line(b"MD5 1", md5_digest::of(b""));
+    line(b"MD5 2", md5_digest::of(b"a"));
+    line(b"MD5 3", md5_digest::of(b"abc"));
+    line(b"MD5 4", md5_digest::of(b"message digest"));
+    line(b"MD5 5", md5_digest::of(b"abcdefghijklmnopqrstuvwxyz"));
     line(
         b"MD5 6",
-        digest::of(b"ABCDEFGHIJKLMNOPQRSTUVWXYZabcdefghijklmnopqrstuvwxyz0123456789"),
+        md5_digest::of(b"ABCDEFGHIJKLMNOPQRSTUVWXYZabcdefghijklmnopqrstuvwxyz0123456789"),
     );
     line(
         b"MD5 7",
-        digest::of(
+        md5_digest::of(
             b"12345678901234567890123456789012345678901234567890123456789012345678901234567890",
         ),
     );
@@ -93,24 +93,24 @@ fn hmac_suite() {
     let data4 = [0xcdu8; 50];
     let key5 = [0x0cu8; 16];
     let key6 = [0xaau8; 80];
-    line(b"HMAC-MD5 1", hmac::of(&key1, b"Hi There"));
+    line(b"HMAC-MD5 1", md5_hmac::of(&key1, b"Hi There"));
     line(
         b"HMAC-MD5 2",
-        hmac::of(b"Jefe", b"what do ya want for nothing?"),
+        md5_hmac::of(b"Jefe", b"what do ya want for nothing?"),
     );
-    line(b"HMAC-MD5 3", hmac::of(&key3, &data3));
-    line(b"HMAC-MD5 4", hmac::of(&key4, &data4));
-    line(b"HMAC-MD5 5", hmac::of(&key5, b"Test With Truncation"));
+    line(b"HMAC-MD5 3", md5_hmac::of(&key3, &data3));
+    line(b"HMAC-MD5 4", md5_hmac::of(&key4, &data4));
+    line(b"HMAC-MD5 5", md5_hmac::of(&key5, b"Test With Truncation"));
     line(
         b"HMAC-MD5 6",
-        hmac::of(
+        md5_hmac::of(
             &key6,
             b"Test Using Larger Than Block-Size Key - Hash Key First",
         ),
     );
     line(
         b"HMAC-MD5 7",
-        hmac::of(
+        md5_hmac::of(
             &key6,
             b"Test Using Larger Than Block-Size Key and Larger Than One Block-Size Data",
         ),

@@ -42,27 +42,27 @@ fn skew(k: i64) {
 }
 
 // Writes what an answer tells, and gives the length of the reply.
-fn told(a: answers::Answer) -> usize {
+fn told(a: das_answer::Answer) -> usize {
     match a {
-        answers::Answer::Refused(n) => {
+        das_answer::Answer::Refused(n) => {
             number(b" answer ", wide(n));
             0
         }
-        answers::Answer::Discarded(d) => {
+        das_answer::Answer::Discarded(d) => {
             number(b" answer ", 100 + wide(d));
             0
         }
-        answers::Answer::Stale(k) => {
+        das_answer::Answer::Stale(k) => {
             number(b" answer ", 106);
             skew(k);
             0
         }
-        answers::Answer::Nak(cause, k, n) => {
-            number(b" answer ", causes::error_cause(cause) as u64);
+        das_answer::Answer::Nak(cause, k, n) => {
+            number(b" answer ", rule_causes::error_cause(cause) as u64);
             skew(k);
             n
         }
-        answers::Answer::Ack(count, k, n) => {
+        das_answer::Answer::Ack(count, k, n) => {
             number(b" answer 0 changed ", count as u64);
             skew(k);
             n
@@ -72,9 +72,9 @@ fn told(a: answers::Answer) -> usize {
 
 // Slot k, where it is not as it was.
 fn changed(before: &[u8], t: &[u8], k: usize) {
-    let was = slots::slot_of(before, k);
-    let is = slots::slot_of(t, k);
-    if !runs::equal(was, is) {
+    let was = table_slots::slot_of(before, k);
+    let is = table_slots::slot_of(t, k);
+    if !octet_runs::equal(was, is) {
         number(b" slot ", k as u64);
         word(b" ");
         hex(is);
@@ -84,7 +84,7 @@ fn changed(before: &[u8], t: &[u8], k: usize) {
 // Two sessions on NAS-Port 7.
 fn table() -> [u8; 384] {
     let mut t = [0u8; 384];
-    sessions::insert(
+    table_sessions::insert(
         &mut t,
         7,
         0x0a000007,
@@ -95,7 +95,7 @@ fn table() -> [u8; 384] {
         b"02",
         b"day",
     );
-    sessions::insert(&mut t, 7, 0x0a000008, 7200, 600, b"bob", b"50", b"", b"");
+    table_sessions::insert(&mut t, 7, 0x0a000008, 7200, 600, b"bob", b"50", b"", b"");
     t
 }
 
@@ -114,7 +114,7 @@ pub fn run(name: &[u8], packet: &[u8]) {
     let mut t = table();
     let mut reply = [0u8; 4096];
     word(name);
-    let n = told(handler::handle(
+    let n = told(das_handle::handle(
         &mut t,
         b"xyzzy",
         0xc0000207,
@@ -125,7 +125,7 @@ pub fn run(name: &[u8], packet: &[u8]) {
     ));
     if n > 0 {
         word(b" reply ");
-        hex(runs::slice(&reply, 0, n));
+        hex(octet_runs::slice(&reply, 0, n));
     }
     changed(&before, &t, 0);
     changed(&before, &t, 1);

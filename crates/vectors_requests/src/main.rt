@@ -28,12 +28,12 @@ fn answer(n: u64) {
 pub fn write(name: &[u8], code: u32, given: &[u8], add: bool) {
     let mut out = [0u8; 4096];
     word(name);
-    match requests::write_request(code, 7, given, add, b"xyzzy", &mut out) {
-        requests::Written::Done(n) => {
+    match dac_write::write_request(code, 7, given, add, b"xyzzy", &mut out) {
+        dac_write::Written::Done(n) => {
             word(b" answer 0 packet ");
-            hex(runs::slice(&out, 0, n));
+            hex(octet_runs::slice(&out, 0, n));
         }
-        requests::Written::NotWritten(r) => {
+        dac_write::Written::NotWritten(r) => {
             answer(wide(r));
         }
     }
@@ -42,14 +42,14 @@ pub fn write(name: &[u8], code: u32, given: &[u8], add: bool) {
 
 pub fn check(name: &[u8], request: &[u8], reply: &[u8]) {
     word(name);
-    match reply_check::check_reply(b"xyzzy", request, reply) {
-        reply_check::Checked::Right => {
+    match dac_check::check_reply(b"xyzzy", request, reply) {
+        dac_check::Checked::Right => {
             answer(0);
         }
-        reply_check::Checked::Failed(v) => {
+        dac_check::Checked::Failed(v) => {
             answer(200 + wide(v));
         }
-        reply_check::Checked::NotChecked(r) => {
+        dac_check::Checked::NotChecked(r) => {
             answer(wide(r));
         }
     }

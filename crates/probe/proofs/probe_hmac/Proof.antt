@@ -1,7 +1,7 @@
 -- `probe::probe_hmac` meets its contract: refused where there is no room, else the digest stands in the whole of it.
 -- Assumes nothing.
 use borrow.Author.Needs.{needs}
-use Rattle.hmac.proofs.Runs.{length-hmac}
+use Rattle.md5_hmac.proofs.Runs.{length-hmac}
 use Rattle.probe.proofs.Answers.{refused, keeps, done, writes, room-no, room-yes, copied}
 use Rattle.probe.proofs.probe_hmac.Statement.{statement}
 use Rattle.probe.proofs.probe_hmac.Tie as tie

@@ -2,7 +2,7 @@
 -- Assumes nothing.
 use borrow.Author.Needs.{needs}
 use Rattle.probe.proofs.Answers.{refused, keeps, done, writes, cut-room, cut-order, cut-long, cut-yes, copied}
-use Rattle.hmac.proofs.Runs.{length-hmac}
+use Rattle.md5_hmac.proofs.Runs.{length-hmac}
 use Rattle.probe.proofs.probe_hmac_cut.Statement.{statement}
 use Rattle.probe.proofs.probe_hmac_cut.Tie as tie
 

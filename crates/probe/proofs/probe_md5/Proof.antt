@@ -1,7 +1,7 @@
 -- `probe::probe_md5` meets its contract: refused where there is no room, else the digest stands in the whole of it.
 -- Assumes nothing.
 use borrow.Author.Needs.{needs}
-use Rattle.md5.proofs.After.{length-md5}
+use Rattle.md5_ops.proofs.After.{length-md5}
 use Rattle.probe.proofs.Answers.{refused, keeps, done, writes, room-no, room-yes, copied}
 use Rattle.probe.proofs.probe_md5.Statement.{statement}
 use Rattle.probe.proofs.probe_md5.Tie as tie

@@ -2,7 +2,7 @@
 -- Assumes nothing.
 use borrow.Author.Needs.{needs}
 use Rattle.probe.proofs.Answers.{refused, keeps, done, writes, cut-room, cut-order, cut-long, cut-yes, copied}
-use Rattle.md5.proofs.After.{length-md5}
+use Rattle.md5_ops.proofs.After.{length-md5}
 use Rattle.probe.proofs.probe_md5_cut.Statement.{statement}
 use Rattle.probe.proofs.probe_md5_cut.Tie as tie
 

@@ -3,7 +3,7 @@
 use mathlib.Core.Path.{_≡_}
 use Prim.Native.Nat.{_≤_, _-_}
 use borrow.Author.Needs.{needs}
-use Rattle.blockwise.specs.Block.{hashedTo}
+use Rattle.packet_blocks.specs.Block.{hashedTo}
 use Rattle.probe_packets.proofs.Blocks.{words-none, words-more, words-all, block-in}
 use Rattle.probe_packets.proofs.by_blocks.Statement.{statement}
 use Rattle.probe_packets.proofs.by_blocks.Tie as tie

@@ -7,7 +7,7 @@ use native.Mathlib.Omega.{arith}
 use mathlib.Core.Path.{_≡_}
 use Rattle.vectors.proofs.Digits.{hex-none, hex-more, hex-all}
 use Rattle.vectors.specs.Hex.{hexOf}
-use Rattle.octets.specs.Runs.{write}
+use Rattle.octet_numbers.specs.Runs.{write}
 use Rattle.vectors.proofs.hex.Statement.{statement}
 use Rattle.vectors.proofs.hex.Tie as tie
 

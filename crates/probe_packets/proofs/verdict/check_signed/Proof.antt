@@ -2,9 +2,9 @@
 -- Assumes nothing.
 use mathlib.Core.Path.{refl}
 use borrow.Author.Needs.{needs}
-use Rattle.packets.proofs.Areas.{area-of, area-short}
-use Rattle.rules.proofs.Verdicts.{surveyed-of}
-use Rattle.survey.specs.Survey.{zeros}
+use Rattle.packet_form.proofs.Areas.{area-of, area-short}
+use Rattle.rule_verdict.proofs.Verdicts.{surveyed-of}
+use Rattle.attr_survey.specs.Survey.{zeros}
 use Rattle.probe_packets.proofs.verdict.check_signed.Statement.{statement}
 use Rattle.probe_packets.proofs.verdict.check_signed.Tie as tie
 

@@ -1,7 +1,7 @@
 -- `probe_packets::verdict::judge` meets its contract: D1 to D3, then the rest on what they leave.
 -- Assumes nothing.
 use borrow.Author.Needs.{needs}
-use Rattle.rules.proofs.Verdicts.{judge-form, judge-signed, judge-unsigned}
+use Rattle.rule_verdict.proofs.Verdicts.{judge-form, judge-signed, judge-unsigned}
 use Rattle.probe_packets.proofs.verdict.judge.Statement.{statement}
 use Rattle.probe_packets.proofs.verdict.judge.Tie as tie
 

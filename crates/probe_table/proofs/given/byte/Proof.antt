@@ -1,7 +1,7 @@
 -- `probe_table::given::byte` meets its contract: past the end the definition reads 0.
 -- Assumes nothing.
 use borrow.Author.Needs.{needs}
-use Rattle.slots.proofs.Reading.{byte-past}
+use Rattle.table_slots.proofs.Reading.{byte-past}
 use Rattle.probe_table.proofs.given.byte.Statement.{statement}
 use Rattle.probe_table.proofs.given.byte.Tie as tie
 

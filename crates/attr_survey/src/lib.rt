@@ -1,0 +1,74 @@
+// One pass over the attributes of an area: what the rules need to know of them.
+ghost use mathlib.Core.Path.{_≡_};
+ghost use Prim.Native.Nat.{_≤_};
+ghost use lib.ListN.{length};
+ghost use Rattle.attr_survey.specs.Survey.{zeros, Surveyed};
+use classes::CLASSES;
+use classes::class_in;
+use classes::says;
+use counts::note;
+use marks::cut;
+use marks::marked;
+use marks::unmarked;
+
+mod classes;
+mod counts;
+mod marks;
+
+// The flags of a pass.
+pub struct Flags {
+    // The attributes fill the area.
+    pub tiled: bool,
+    // One is not supported in this request.
+    pub unsupported: bool,
+    // One is Service-Type.
+    pub service: bool,
+    // One has the type of an earlier one, and may not.
+    pub repeated: bool,
+    // One has a length that its type may not have.
+    pub misfit: bool,
+    // One names a session.
+    pub criterion: bool,
+    // One changes a session.
+    pub change: bool,
+}
+
+// Surveys the area of a request of this code. For each type but 33 it counts the attributes (2 for any more) and keeps end
+// and length of the first, in three arrays of zeros that the caller lends.
+pub fn survey(
+    s: &[u8],
+    code: u8,
+    count: &mut [u8; 256],
+    ends: &mut [u16; 256],
+    sizes: &mut [u8; 256],
+) -> Flags
+    requires { ⌜ (length (now s) ≤ 4096) × (now count ≡ zeros) × (now ends ≡ zeros) × (now sizes ≡ zeros) ⌝ }
+    ensures { λ r. ⌜ Surveyed (now (s .entry)) code r (now (count .exit)) (now (ends .exit)) (now (sizes .exit)) ⌝ }
+{
+    let table = CLASSES;
+    let mut f = unmarked();
+    let mut at: usize = 0;
+    loop {
+        match attr_walk::step_at(s, at) {
+            attr_walk::Step::Found(a, next) => {
+                let kind = a.kind;
+                let size = a.size;
+                let end = next as u16;
+                at = next;
+                let class = class_in(&table, kind);
+                // What may repeat is not counted, and breaks no rule but that on length 2.
+                if says(64, class) {
+                    if size == 2 {
+                        f = marked(f, code, class, size, false);
+                        continue;
+                    }
+                    continue;
+                }
+                let again = note(count, ends, sizes, kind, end, size);
+                f = marked(f, code, class, size, again);
+            }
+            attr_walk::Step::End => return f,
+            attr_walk::Step::Bad => return cut(f),
+        }
+    }
+}

@@ -1,0 +1,73 @@
+// The flags of a pass, attribute by attribute.
+ghost use mathlib.Core.Path.{_≡_};
+ghost use mathlib.Core.Bool.{_||_};
+ghost use Prim.Native.Nat.{_<_};
+ghost use Rattle.attr_survey.specs.Classes.{says};
+ghost use Rattle.attr_survey.specs.Turns.{unmarked, marked, cut};
+use crate::Flags;
+use crate::classes::lacks;
+use crate::classes::misfits;
+use crate::classes::says;
+
+// One or the other: a call, so that callers have no branches to join.
+fn either(a: bool, b: bool) -> bool
+    ensures { λ r. ⌜ r ≡ a || b ⌝ }
+{
+    if a {
+        return true;
+    }
+    b
+}
+
+// A flag of the answer of this weight.
+fn flagged(a: bool, weight: u8, class: u8) -> bool
+    requires { ⌜ 0 < weight ⌝ }
+    ensures { λ r. ⌜ r ≡ a || says weight class ⌝ }
+{
+    either(a, says(weight, class))
+}
+
+// Before the first attribute.
+pub fn unmarked() -> Flags
+    ensures { λ r. ⌜ r ≡ unmarked ⌝ }
+{
+    Flags {
+        tiled: true,
+        unsupported: false,
+        service: false,
+        repeated: false,
+        misfit: false,
+        criterion: false,
+        change: false,
+    }
+}
+
+// With all answers on an attribute, and whether its type was there before.
+pub fn marked(f: Flags, code: u8, class: u8, size: u8, again: bool) -> Flags
+    ensures { λ r. ⌜ r ≡ marked code class size again f ⌝ }
+{
+    Flags {
+        tiled: f.tiled,
+        unsupported: either(f.unsupported, lacks(code, class)),
+        service: flagged(f.service, 128, class),
+        repeated: either(f.repeated, again),
+        misfit: either(f.misfit, misfits(class, size)),
+        criterion: flagged(f.criterion, 16, class),
+        change: flagged(f.change, 32, class),
+    }
+}
+
+// The area does not end behind an attribute.
+pub fn cut(f: Flags) -> Flags
+    ensures { λ r. ⌜ r ≡ cut f ⌝ }
+{
+    Flags {
+        tiled: false,
+        unsupported: f.unsupported,
+        service: f.service,
+        repeated: f.repeated,
+        misfit: f.misfit,
+        criterion: f.criterion,
+        change: f.change,
+    }
+}

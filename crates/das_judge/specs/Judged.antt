@@ -1,0 +1,16 @@
+-- What a verdict comes to before any session is looked at: an answer, or the request passed.
+-- Assumes nothing.
+use mathlib.Core.List.{List}
+use Prim.Native.Nat.{ℕ}
+use Rattle.rule_verdict.specs.declared.Verdict as R
+use Rattle.rule_verdict.specs.declared.Verdict.the-variants as J
+use Rattle.das_reply_parts.specs.Reply.{replyLength}
+use Rattle.das_answer.specs.declared.Answer.the-variants as A
+use Rattle.das_judge.specs.declared.Judged as D
+use Rattle.das_judge.specs.declared.Judged.the-variants.{Ended, Passed}
+
+abbrev pub judgedAs : List ℕ → R.Verdict → D.Judged
+judgedAs p (J.Discarded d) = Ended (A.Discarded d)
+judgedAs p (J.Stale skew) = Ended (A.Stale skew)
+judgedAs p (J.Nak c skew) = Ended (A.Nak c skew (replyLength p c))
+judgedAs p (J.Passed skew) = Passed

@@ -1,0 +1,64 @@
+-- The first State from what the pass over the attributes kept of type 24: it ends where the pass says and has the length that it says, so it starts at their difference.
+-- Assumes nothing.
+use mathlib.Core.Path.{_≡_, refl, sym, ap, _∙_}
+use mathlib.Core.Bool.{Bool, true, false, false≢true}
+use mathlib.Core.List.{List, []}
+use Prim.Native.Nat.{ℕ, _+_, _-_, _≤_}
+use native.Mathlib.Omega.{arith}
+use borrow.Author.Tests.{eqb-true}
+use lib.Dec.{lit<}
+use lib.ListN.{getD}
+use Rattle.attr_walk.specs.declared.Attribute.{Attribute}
+use Rattle.attr_walk.specs.declared.Search.{Search}
+use Rattle.attr_walk.specs.declared.Search.the-variants.{At, Missing}
+use Rattle.attr_walk.specs.declared.Step.the-variants.{Found}
+use Rattle.attr_walk.specs.Attributes.{stepAt, attributes, any, found, firstOf, kindIs}
+use Rattle.attr_walk.proofs.Stands.{first-stands}
+use Rattle.attr_walk.proofs.Searches.{first-passes}
+use Rattle.attr_survey.specs.declared.Flags.{Flags}
+use Rattle.attr_survey.specs.Survey.{Surveyed, seenAt, endOf, sizeOf}
+use Rattle.attr_lookup.proofs.Values.{seen-any}
+use Rattle.das_reply_parts.specs.Reply.{asCame, ifFound, statePart}
+
+-- an attribute that stands where it says, and is the first State
+pub record First (s : List ℕ) (a : Attribute) : Type 0 where
+  pub stands : stepAt s (a .at) ≡ Found a (a .at + a .size)
+  pub is : statePart s ≡ asCame s a
+
+state-of : (s : List ℕ) (z : Search) (end size : ℕ) → firstOf (kindIs 24) (attributes s) ≡ z → found z ≡ true → end ≡ endOf z → size ≡ sizeOf z
+    → (size ≤ end) × First s (record { kind = 24; at = end - size; size = size })
+unfolding statePart
+state-of s (At a) end size q h e g =
+    let k : a .kind ≡ 24 = eqb-true (a .kind) 24 (first-passes (kindIs 24) (attributes s) a q) in
+    let o : end - size ≡ a .at = omega arith in
+    let i : record { kind = 24; at = end - size; size = size } ≡ a = rw (o, g, ← k) in
+    (omega arith, rw i (record { stands = first-stands (kindIs 24) s a q; is = ap (ifFound s) q }))
+state-of s Missing end size q h e g = absurd (false≢true h)
+
+module _ (s : List ℕ) (code : ℕ) (f : Flags) (count ends sizes : List ℕ) (surveyed : Surveyed s code f count ends sizes) (r : Bool) (is : r ≡ seenAt count 24) where
+  seen : any (kindIs 24) (attributes s) ≡ r
+  seen = sym (is ∙ seen-any s code f count ends sizes surveyed 24 (lit< tt) (λ e. omega arith))
+
+  -- where it ends, and its length, in the widths that the code has them
+  module _ (h : r ≡ true) (end size : ℕ) (e : end ≡ getD ends 24 0) (g : size ≡ getD sizes 24 0) where
+    both : (size ≤ end) × First s (record { kind = 24; at = end - size; size = getD sizes 24 0 })
+    both =
+        let known = surveyed .types 24 (lit< tt) (λ e. omega arith) in
+        rw g (state-of s (firstOf (kindIs 24) (attributes s)) end (getD sizes 24 0) refl (seen ∙ h) (e ∙ known .end) (known .size))
+
+    pub state-sub : size ≤ end
+    state-sub = both .0
+
+    pub state-stands : stepAt s (end - size) ≡ Found (record { kind = 24; at = end - size; size = getD sizes 24 0 }) (end - size + getD sizes 24 0)
+    state-stands = both .1 .stands
+
+    pub state-some : statePart s ≡ asCame s (record { kind = 24; at = end - size; size = getD sizes 24 0 })
+    state-some = both .1 .is
+
+  pub state-none : r ≡ false → statePart s ≡ []
+  unfolding statePart
+  state-none h = go (firstOf (kindIs 24) (attributes s)) (seen ∙ h)
+    where
+      go : (z : Search) → found z ≡ false → ifFound s z ≡ []
+      go (At a) e = absurd (false≢true (sym e))
+      go Missing e = refl

@@ -1,9 +1,0 @@
--- `layout::reading::open_at` meets its contract: the job is read, and asked.
--- Assumes nothing.
-use borrow.Author.Needs.{needs}
-use Rattle.layout.proofs.Lowest.{open-read}
-use Rattle.layout.proofs.reading.open_at.Statement.{statement}
-use Rattle.layout.proofs.reading.open_at.Tie as tie
-
-pub open-at-spec : {M : Type 1} → statement M
-open-at-spec = tie.close (tie.spec (λ c κs. search needs) (λ c κs. search needs) (λ c. search (needs, open-read)))

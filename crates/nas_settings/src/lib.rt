@@ -1,0 +1,23 @@
+// What a gate may be set up with.
+ghost use mathlib.Core.Path.{_≡_};
+ghost use Rattle.nas_settings.specs.Settings.{badSecret, badName};
+
+// R2: the secret does not have 1 to 64 bytes.
+pub fn bad_secret(secret: &[u8]) -> bool
+    ensures { λ r. ⌜ r ≡ badSecret (now (secret .entry)) ⌝ }
+{
+    if secret.len() == 0 {
+        return true;
+    }
+    64 < secret.len()
+}
+
+// R3: the gate's own NAS-Identifier does not have 1 to 32 bytes.
+pub fn bad_name(name: &[u8]) -> bool
+    ensures { λ r. ⌜ r ≡ badName (now (name .entry)) ⌝ }
+{
+    if name.len() == 0 {
+        return true;
+    }
+    32 < name.len()
+}

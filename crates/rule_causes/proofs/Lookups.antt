@@ -1,0 +1,57 @@
+-- What a pass kept tells of 403, 402 and 506: where no type but 33 stands twice, what holds of one attribute of a type holds of the first.
+-- Assumes nothing.
+use mathlib.Core.Path.{_≡_, refl, sym, ap, _∙_}
+use mathlib.Core.Bool.{false, not, _&&_, _||_}
+use mathlib.Core.List.{List}
+use Prim.Native.Nat.{ℕ, _≤_, _<_}
+use native.Mathlib.Omega.{arith}
+use lib.Dec.{ltb, lit<}
+use lib.ListN.{getD}
+use Rattle.octet_numbers.specs.Numbers.{beBytes}
+use Rattle.octet_numbers.specs.Runs.{equalBytes}
+use Rattle.attr_walk.specs.declared.Search.{Search}
+use Rattle.attr_walk.specs.declared.Search.the-variants.{At, Missing}
+use Rattle.attr_walk.specs.Attributes.{attributes, valueOf, any, found, firstOf, countOf, kindIs, onFirst}
+use Rattle.attr_walk.proofs.Searches.{any-or, only}
+use Rattle.attr_survey.specs.declared.Flags.{Flags}
+use Rattle.attr_survey.specs.Survey.{Surveyed, endOf, sizeOf}
+use Rattle.attr_survey.specs.Turns.{keptValue}
+use Rattle.attr_survey.proofs.Repeats.{at-most-once}
+use Rattle.attr_lookup.proofs.Values.{kept-attribute, seen-any}
+use Rattle.rule_causes.specs.Causes.{differing, mismatched, missing, oversized}
+use Rattle.rule_causes.specs.Later.{differsAt, missingBy}
+
+at-differs : (s own : List ℕ) (x : Search) → (found x && not (equalBytes (keptValue s (endOf x) (sizeOf x)) own)) ≡ onFirst (λ a. not (equalBytes (valueOf s a) own)) x
+at-differs s own (At a) = ap (λ (v : List ℕ). not (equalBytes v own)) (kept-attribute s a)
+at-differs s own Missing = refl
+
+at-long : (x : Search) → ltb 34 (sizeOf x) ≡ onFirst (λ a. ltb 34 (a .size)) x
+at-long (At a) = refl
+at-long Missing = refl
+
+module _ (s : List ℕ) (code : ℕ) (f : Flags) (count ends sizes : List ℕ) (i : Surveyed s code f count ends sizes) where
+  pub missing-flags : missingBy code f ≡ missing code s
+  unfolding missingBy missing
+  missing-flags = rw (i .criterion, i .change)
+
+  module _ (nr : f .repeated ≡ false) where
+    low : (k : ℕ) → (k ≡ 33 → ⊥) → countOf (kindIs k) (attributes s) ≤ 1
+    low k ne = at-most-once (attributes s) (sym (i .repeated) ∙ nr) k ne
+
+    differs-any : (k : ℕ) (own : List ℕ) → k < 256 → (k ≡ 33 → ⊥) → differsAt s count ends sizes k own ≡ any (differing s k own) (attributes s)
+    unfolding differsAt
+    differs-any k own h ne =
+        rw (seen-any s code f count ends sizes i k h ne, i .types k h ne .end, i .types k h ne .size)
+        (at-differs s own (firstOf (kindIs k) (attributes s))
+        ∙ sym (only (kindIs k) (λ a. not (equalBytes (valueOf s a) own)) (attributes s) (low k ne)))
+
+    pub differ : (address : ℕ) (name : List ℕ) → (differsAt s count ends sizes 4 (beBytes 4 address) || differsAt s count ends sizes 32 name) ≡ any (mismatched address name s) (attributes s)
+    differ address name =
+        rw (differs-any 4 (beBytes 4 address) (lit< tt) (λ e. omega arith), differs-any 32 name (lit< tt) (λ e. omega arith))
+        (sym (any-or (differing s 4 (beBytes 4 address)) (differing s 32 name) (attributes s)))
+
+    pub long-any : ltb 34 (getD sizes 11 0) ≡ any oversized (attributes s)
+    long-any =
+        let ne : _≡_ {A = ℕ} 11 33 → ⊥ = λ e. omega arith in
+        ap (ltb 34) (i .types 11 (lit< tt) ne .size) ∙ at-long (firstOf (kindIs 11) (attributes s))
+        ∙ sym (only (kindIs 11) (λ a. ltb 34 (a .size)) (attributes s) (low 11 ne))

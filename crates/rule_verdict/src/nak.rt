@@ -1,0 +1,53 @@
+// Causes 1 to 6 of a fresh request, as a verdict.
+ghost use mathlib.Core.Path.{_≡_};
+ghost use Prim.Native.Nat.{_<_};
+ghost use lib.ListN.{length};
+ghost use Rattle.packet_form.specs.Packet.{codeOf, areaOf};
+ghost use Rattle.attr_survey.specs.Survey.{Surveyed};
+ghost use Rattle.rule_verdict.specs.Verdict.{applies, nakOr, freshVerdict};
+
+// A cause applies.
+pub fn applies(cause: rule_causes::Cause) -> bool
+    ensures { λ r. ⌜ r ≡ applies cause ⌝ }
+{
+    match cause {
+        rule_causes::Cause::NoCause => false,
+        rule_causes::Cause::UnsupportedAttribute => true,
+        rule_causes::Cause::MissingAttribute => true,
+        rule_causes::Cause::IdentificationMismatch => true,
+        rule_causes::Cause::InvalidRequest => true,
+        rule_causes::Cause::UnsupportedService => true,
+        rule_causes::Cause::SessionNotFound => true,
+        rule_causes::Cause::ResourcesUnavailable => true,
+    }
+}
+
+// Then it is a NAK.
+fn nak_or(cause: rule_causes::Cause, skew: i64) -> super::Verdict
+    ensures { λ r. ⌜ r ≡ nakOr skew cause ⌝ }
+{
+    if applies(cause) {
+        return super::Verdict::Nak(cause, skew);
+    }
+    super::Verdict::Passed(skew)
+}
+
+// Causes 1 to 6 of a fresh request.
+pub fn fresh(
+    p: &[u8],
+    s: &[u8],
+    address: u32,
+    name: &[u8],
+    skew: i64,
+    f: attr_survey::Flags,
+    count: &[u8; 256],
+    ends: &[u16; 256],
+    sizes: &[u8; 256],
+) -> super::Verdict
+    requires { ⌜ (0 < length (now p)) × (now s ≡ areaOf (now p)) ⌝ }
+    requires { ⌜ Surveyed (areaOf (now p)) (codeOf (now p)) f (now count) (now ends) (now sizes) ⌝ }
+    ensures { λ r. ⌜ r ≡ freshVerdict address (now (name .entry)) (now (p .entry)) skew ⌝ }
+{
+    let cause = rule_causes::first_cause(s, p[0], address, name, f, count, ends, sizes);
+    nak_or(cause, skew)
+}

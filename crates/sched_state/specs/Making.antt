@@ -1,0 +1,19 @@
+-- Making a scheduler (document 01, "The desk": "the secret and the gate's identity, fixed when the desk is made").
+-- Assumes nothing.
+use lib.ListN.{length, replicate}
+use Rattle.octet_numbers.specs.Runs.{write}
+use Rattle.nas_settings.specs.Settings.{Settings}
+use Rattle.sched_job.specs.Job.{freeJob}
+use Rattle.sched_state.specs.declared.Scheduler as D
+
+-- four free jobs; secret and name with zeros behind them
+unfoldable pub madeOf : Settings → D.Scheduler
+madeOf g =
+    record {
+      jobs = replicate 4 freeJob;
+      secret = write (replicate 64 0) 0 (g .secret);
+      «secret_size» = length (g .secret);
+      address = g .address;
+      name = write (replicate 32 0) 0 (g .name);
+      «name_size» = length (g .name);
+    }

@@ -1,0 +1,12 @@
+-- `table_slots::byte` meets its contract: past the end the definition reads 0.
+-- Assumes nothing.
+use borrow.Author.Needs.{needs}
+use Rattle.table_slots.proofs.Reading.{byte-past}
+use Rattle.table_slots.proofs.byte.Statement.{statement}
+use Rattle.table_slots.proofs.byte.Tie as tie
+
+returns : tie.Need-returns
+returns c = search (needs, byte-past)
+
+pub byte-spec : {M : Type 1} → statement M
+byte-spec = tie.close (tie.spec returns (λ c. search needs) (λ c κs. search needs) (λ c. search needs))

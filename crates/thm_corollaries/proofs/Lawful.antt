@@ -1,0 +1,27 @@
+-- The laws of document 01 on the scheduler: those of single calls are proved beside demand 3, and D1 is no number that a step of a list discards as.
+-- Assumes nothing.
+use mathlib.Core.Bool.{false≢true}
+use Rattle.thm_serial.proofs.Lone as L
+use Rattle.thm_serial.proofs.Writing as W
+use Rattle.thm_serial.proofs.Copying as C
+use Rattle.thm_serial.proofs.Others as O
+use Rattle.thm_corollaries.specs.Laws.{Laws}
+use Rattle.thm_corollaries.proofs.Rereading.{discards-late}
+
+pub laws : Laws
+laws =
+    record {
+      lone = L.lone;
+      only-ack = W.only-ack;
+      only-commit = W.only-commit;
+      only-replies = W.only-replies;
+      step-store = W.step-store;
+      open-before = C.open-before;
+      open-behind = C.open-behind;
+      step-others = O.step-others;
+      drop-others = O.drop-others;
+      drop-made = O.drop-made;
+      drop-table = O.drop-table;
+      drop-store = O.drop-store;
+      never-reread = λ s new cs t store j b e. false≢true (discards-late s new cs t store j b _ e);
+    }
