@@ -7,11 +7,11 @@ export DESTDIR
 
 # the proved code at work: on the vectors of the RFCs, and in a small gate in C
 demo:
-	@tests/demo.sh
+	@tests/gate/demo.sh
 
 # the gate: layout, proofs, must-fail edits, and tests outside the prover
 test:
-	@tests/gate.sh
+	@tests/gate/gate.sh
 
 # the figures: instructions beside MD5, OpenSSL and the peers, growth, code size, stack; fails where one is worse than recorded
 bench:

@@ -32,14 +32,14 @@ built() { # PROGRAM WORD...: of these sources and archives
     shift
     gcc -std=c99 -O2 -Wall -Wextra -o "target/bench/$program" "$@" -Wl,-z,now || exit 1
 }
-requests='bench/packets.c bench/plain.c'
+requests='bench/programs/packets.c bench/programs/plain_md5.c'
 # shellcheck disable=SC2086 # one word to a file
 {
-    built digests -Wno-deprecated-declarations bench/digests.c bench/plain.c "$1" -lcrypto # OpenSSL calls MD5_Init deprecated
-    built reading bench/reading.c $requests "$2"
-    built handle bench/handle.c bench/sessions.c $requests "$3"
-    built steps bench/steps.c $requests "$3"
-    built stack bench/stack.c bench/sessions.c $requests "$3"
+    built digests -Wno-deprecated-declarations bench/programs/digests.c bench/programs/plain_md5.c "$1" -lcrypto # OpenSSL calls MD5_Init deprecated
+    built reading bench/programs/reading.c $requests "$2"
+    built handle bench/programs/handle.c bench/programs/sessions.c $requests "$3"
+    built steps bench/programs/steps.c $requests "$3"
+    built stack bench/programs/stack.c bench/programs/sessions.c $requests "$3"
 }
-for functions in 0 1 9; do built "linked$functions" "-DLINKED=$functions" bench/linked.c "$3" -Wl,--gc-sections; done
-exec python3 bench/measure.py "$mode"
+for functions in 0 1 9; do built "linked$functions" "-DLINKED=$functions" bench/programs/linked.c "$3" -Wl,--gc-sections; done
+exec python3 bench/measuring/measure.py "$mode"

@@ -1,4 +1,4 @@
-/* What the billing server asks the gate of samples/rooms.c for, and the gate's settings: written by tests/sample_requests.py. */
+/* What the billing server asks the gate of samples/rooms.c for, and the gate's settings: written by tests/stored/sample_requests.py. */
 #include <stddef.h>
 #include <stdint.h>
 

@@ -1,86 +1,25 @@
-"""The tests outside the prover: python3 tests/run.py LIBRARY.so... Its last line is the count."""
+"""The tests outside the prover, from the root: python3 -m tests.run LIBRARY.so... Its last line is the count."""
 import faulthandler
 import sys
+from importlib import import_module
 
-import c_cases
-import cause_cases
-import discard_cases
-import equal_cases
-import exchange_handler_cases
-import exchange_random_cases
-import handle_random_cases
-import handle_refusal_cases
-import handle_reply_cases
-import handle_session_cases
-import hmac_cases
-import install_cases
-import keeping_cases
-import md5_cases
-import number_cases
-import packet_null_cases
-import random_cases
-import refusal_cases
-import reply_check_cases
-import request_writer_cases
-import reread_cases
-import runner
-import scheduler_cases
-import scheduler_self_cases
-import scheduling_cases
-import self_cases
-import self_check_cases
-import self_write_cases
-import signature_cases
-import stamp_cases
-import stored_cases
-import table_change_cases
-import table_end_cases
-import table_match_cases
-import table_null_cases
-import table_slot_cases
-import table_start_cases
-import write_cases
-from probe import Probe
+from tests.harness import runner
+from tests.harness.probe import Probe
 
-MODULES = [
-    self_cases,
-    self_write_cases,
-    self_check_cases,
-    scheduler_self_cases,
-    scheduler_cases,
-    reread_cases,
-    md5_cases,
-    hmac_cases,
-    refusal_cases,
-    equal_cases,
-    number_cases,
-    write_cases,
-    signature_cases,
-    discard_cases,
-    stamp_cases,
-    cause_cases,
-    random_cases,
-    packet_null_cases,
-    table_slot_cases,
-    table_match_cases,
-    table_change_cases,
-    table_start_cases,
-    table_end_cases,
-    table_null_cases,
-    handle_refusal_cases,
-    handle_session_cases,
-    handle_reply_cases,
-    handle_random_cases,
-    request_writer_cases,
-    reply_check_cases,
-    exchange_random_cases,
-    exchange_handler_cases,
-    scheduling_cases,
-    keeping_cases,
-    c_cases,
-    install_cases,
-    stored_cases,
+MODULES = [  # of each folder, in the order in which they are run
+    ("self_tests", ["wrong_handlers", "run_endings", "wrong_writers", "wrong_reply_checks", "schedulers_found_out", "structs_found_out"]),
+    ("cases.scheduler", ["model", "reread"]),  # the model itself; the library is held beside it further down
+    ("cases.digests", ["md5", "hmac_md5", "refusals"]),
+    ("cases.octets", ["equality", "numbers", "copies"]),
+    ("cases.packets", ["signatures", "discards", "stamps", "causes", "seeded", "nulls"]),
+    ("cases.table", ["slots", "matching", "changes", "starts", "ends", "nulls"]),
+    ("cases.handler", ["refusals", "sessions", "replies", "seeded"]),
+    ("cases.exchanges", ["writer", "reply_check", "seeded", "with_handler"]),
+    ("cases.scheduler", ["library", "struct_after_calls"]),
+    ("cases.c", ["programs", "install"]),
+    ("stored", ["cases"]),
 ]
 
 faulthandler.enable()  # a byte touched behind a fence ends the process: say in which test
-sys.exit(runner.run(Probe(sys.argv[1:]), MODULES))
+modules = [import_module(f"tests.{folder}.{name}") for folder, names in MODULES for name in names]
+sys.exit(runner.run(Probe(sys.argv[1:]), modules))

@@ -7,7 +7,7 @@ set -eu
 cd "$(dirname "$0")/../.."
 platform=$1 room=target/cross/$1
 . tests/cross/platform.sh
-clang=$(tests/kit.sh)
+clang=$(tests/tools/kit.sh)
 mkdir -p "$room"
 
 compiled() { # WORDS...: for the platform

@@ -14,7 +14,7 @@ env -u MAKEFLAGS -u MFLAGS -u MAKELEVEL -u MAKEOVERRIDES -u DESTDIR make -s inst
 cmp "$2" "$place/lib/libfumbokeri.a"
 flags=$(PKG_CONFIG_LIBDIR=$place/lib/pkgconfig pkg-config --cflags --libs fumbokeri)
 # shellcheck disable=SC2086 # several words
-$gcc -std=c99 -Wall -Wextra -Werror -pie -fPIE -o "$place/installed" tests/installed.c $flags
+$gcc -std=c99 -Wall -Wextra -Werror -pie -fPIE -o "$place/installed" tests/cases/c/installed.c $flags
 if [ -n "$emulator" ]; then
     library=$(readlink -f "$($gcc -print-file-name=libc.so.6)")
     emulator="$emulator -L ${library%/lib/*}"

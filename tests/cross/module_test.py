@@ -5,10 +5,8 @@ import pathlib
 import sys
 import tempfile
 
-sys.path.insert(0, str(pathlib.Path(__file__).parent.parent))
-
-import module  # noqa: E402
-import runner  # noqa: E402
+from tests.cross import module
+from tests.harness import runner
 
 HEAD = 'target datalayout = "e-x"\ntarget triple = "x86_64-unknown-linux-gnu"\n'
 OTHER = 'target datalayout = "e-other"\ntarget triple = "other-unknown-linux-gnu"\n'

@@ -15,7 +15,7 @@ built() { # PROGRAM FILE...
 
 generated() { # PROGRAM SOURCES...: one of the fuzzer's programs, with inputs by generated.c
     built "$@" tests/cross/generated.c tests/fuzz/harness.c tests/fuzz/mend.c tests/fuzz/parts.c tests/fuzz/room.c tests/fuzz/*_model.c \
-        bench/plain.c "$library"
+        bench/programs/plain_md5.c "$library"
 }
 
 for sample in rooms interleaved; do built $sample samples/$sample.c samples/show.c "$library"; done

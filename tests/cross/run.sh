@@ -108,16 +108,16 @@ mkdir -p $room
 rm -rf $room/x86-64 $room/aarch64 $room/riscv64 # no archive stays that this run does not build
 if [ $# -eq 0 ]; then
     echo 'cross: builds the library and the probe, proofs included; from nothing they take some minutes'
-    tests/proved.sh tests/cross/modules.sh || exit 1
+    tests/tools/proved.sh tests/cross/modules.sh || exit 1
     set -- $room/capi.ll $room/probe.ll target/staticlib/libcapi.a
 fi
 [ $# -eq 3 ] || { echo 'usage: run.sh [CAPI PROBE ARCHIVE]' >&2; exit 1; }
-python3 tests/fuzz/seeds.py $room/seeds || exit 1
+python3 -m tests.fuzz.seeds $room/seeds || exit 1
 echo 'cross: Debian packages of compilers and emulator:'
 dpkg-query -W gcc-aarch64-linux-gnu gcc-riscv64-linux-gnu qemu-user
 
 echo '== what C calls in the module'
-python3 tests/cross/module_test.py >$room/module_test.log
+python3 -m tests.cross.module_test >$room/module_test.log
 count $? "module.py does not find all that does not fit: $(cat $room/module_test.log)"
 python3 tests/cross/module.py plain "$1"
 needed $? "other platforms pass this otherwise than x86-64, so no archive is built for them"

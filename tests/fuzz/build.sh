@@ -22,7 +22,7 @@ linked() { # PROGRAM OUTPUT FILE...
     shift 2
     # shellcheck disable=SC2086 # one word to a source
     clang -std=c99 -Wall -Wextra -O2 -g -fsanitize=fuzzer -o "$output" $sources tests/fuzz/harness.c tests/fuzz/mend.c tests/fuzz/parts.c \
-        tests/fuzz/room.c tests/fuzz/*_model.c bench/plain.c "$@"
+        tests/fuzz/room.c tests/fuzz/*_model.c bench/programs/plain_md5.c "$@"
 }
 
 wraps=

@@ -19,7 +19,7 @@ tests/fuzz/tools.sh || exit 1
 mkdir -p $room/findings
 echo 'fuzz: builds the library twice, proofs included; from nothing they take some minutes'
 tests/fuzz/build.sh "$@" >$room/build.log 2>&1 || { cat $room/build.log; echo 'fuzz: not built' >&2; exit 1; }
-python3 tests/fuzz/seeds.py $room/seeds || exit 1
+python3 -m tests.fuzz.seeds $room/seeds || exit 1
 
 passed=0 failed=0
 count() { # STATUS WHAT

@@ -1,17 +1,15 @@
-"""Inputs to start from, made of the tests' own drafts: python3 tests/fuzz/seeds.py DIR writes DIR/PROGRAM/NUMBER and DIR/dictionary."""
+"""Inputs to start from, made of the tests' own drafts: python3 -m tests.fuzz.seeds DIR writes DIR/PROGRAM/NUMBER and DIR/dictionary."""
 import pathlib
 import sys
 
-sys.path.insert(0, str(pathlib.Path(__file__).parent.parent))
-
-from world import World  # noqa: E402
-from drafts import HOUSES, Draft  # noqa: E402
-from exchange_drafts import any_asked, any_reply  # noqa: E402
-from faults import FAULTS  # noqa: E402
-from packet_model import Gate  # noqa: E402
-from packets import attribute  # noqa: E402
-from scheduler_lists import any_gate, posted  # noqa: E402
-from table_samples import seeded  # noqa: E402
+from tests.inputs.exchange_drafts import any_asked, any_reply
+from tests.inputs.handler_drafts import HOUSES, Draft
+from tests.inputs.handler_faults import FAULTS
+from tests.inputs.packets import attribute
+from tests.inputs.scheduler_lists import any_gate, posted
+from tests.inputs.scheduler_world import World
+from tests.inputs.tables import seeded
+from tests.models.packet_model import Gate
 
 COUNT = 120  # of each program's inputs
 SMALL = 4 * 192  # a table of more bytes would be what is mutated most

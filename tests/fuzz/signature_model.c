@@ -1,7 +1,7 @@
 /* Authenticators and Message-Authenticators of a packet, over a copy of it. */
 #include <string.h>
 
-#include "../../bench/plain.h"
+#include "../../bench/programs/plain_md5.h"
 #include "model.h"
 
 const uint8_t no_auth[16];

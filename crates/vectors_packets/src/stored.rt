@@ -1,4 +1,4 @@
-// The stored packets: written by tests/stored_packets.py.
+// The stored packets: written by tests/stored/packets.py.
 use crate::run;
 
 pub fn discards() {

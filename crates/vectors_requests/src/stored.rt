@@ -1,4 +1,4 @@
-// Requests to be written and replies to be checked: written by tests/stored_requests.py.
+// Requests to be written and replies to be checked: written by tests/stored/requests.py.
 use crate::check;
 use crate::write;
 

@@ -1,0 +1,68 @@
+/* Whole requests through the library: handle KIND SIZE RUNS, for callgrind to count what fbk_handle takes. */
+#include <stdio.h>
+#include <stdlib.h>
+#include <string.h>
+
+#include "../../include/fumbokeri.h"
+#include "packets.h"
+#include "sessions.h"
+
+static uint8_t table[FBK_SLOTS_MAX * FBK_SLOT_SIZE], fresh[sizeof table], reply[FBK_REPLY_SIZE];
+static size_t slots = FBK_SLOTS_MAX;
+
+/* SIZE is the number of slots, or where there are Proxy-States of so many bytes, the packet's Length. */
+static const struct kind {
+    const char *name;
+    size_t states;
+    enum neighbours others;
+    int mac, flip;
+    uint32_t answer, changed, reply_len;
+} kinds[] = {
+    {"plain", 0, OTHER_TEXT, 0, 0, 0, 1, 34},    {"lone", 0, FREE, 0, 0, 0, 1, 34},
+    {"length", 0, OTHER_LENGTH, 0, 0, 0, 1, 34}, {"mac", 0, OTHER_TEXT, 1, 0, 0, 1, 52},
+    {"forged", 0, OTHER_TEXT, 1, 1, 104, 0, 0},  {"short", 3, OTHER_TEXT, 0, 0, 402, 0, 0},
+    {"long", 255, OTHER_TEXT, 0, 0, 402, 0, 0},
+};
+
+static void make(const struct kind *kind, size_t size)
+{
+    if (kind->states > 0) {
+        make_states(size, kind->states);
+    } else {
+        slots = size;
+        make_disconnect(kind->mac);
+    }
+    packet[4] ^= kind->flip;
+    fill_table(fresh, slots, kind->others);
+}
+
+/* Whether the library does what is to be measured. Length 20 has no stamp, and gets no reply. */
+static int call(const struct kind *kind)
+{
+    uint32_t changed, reply_len, stamped;
+    int64_t skew;
+    uint32_t answer = fbk_handle(table, slots * FBK_SLOT_SIZE, secret, sizeof secret, nas_ip, nas_id, sizeof nas_id, reply, sizeof reply,
+                                 packet, length, clock_now, &changed, &reply_len, &skew, &stamped);
+    if (kind->states > 0)
+        return length == 20 ? answer == 106 : answer == kind->answer && reply_len == length;
+    return answer == kind->answer && changed == kind->changed && reply_len == kind->reply_len;
+}
+
+int main(int argc, char **argv)
+{
+    for (size_t i = 0; argc == 4 && i < sizeof kinds / sizeof *kinds; i++) {
+        const struct kind *kind = &kinds[i];
+        if (strcmp(kind->name, argv[1]) != 0)
+            continue;
+        make(kind, strtoul(argv[2], NULL, 10));
+        for (long runs = strtol(argv[3], NULL, 10); runs > 0; runs--) {
+            memcpy(table, fresh, sizeof table);
+            if (!call(kind)) {
+                fprintf(stderr, "handle: the answer to kind %s is not as it must be\n", kind->name);
+                return 1;
+            }
+        }
+        return 0;
+    }
+    return 2;
+}
