@@ -5,7 +5,7 @@ mod hashing; // hashing.rt: Hash
 mod matching; // matching.rt: Match
 
 ghost use mathlib.Core.Path.{_≡_};
-ghost use Rattle.sched_job.specs.Job.{freeJob, firstJob, atFirstSlot, isOpen, restarted};
+ghost use Rattle.sched_job.specs.Job.{freeJob, firstJob, atFirstSlot, isOpen};
 ghost use Rattle.sched_job.specs.Moves.{going, done};
 
 pub enum Stage {
@@ -106,19 +106,6 @@ impl Job {
             marks: [0u8; 64],
             length: self.length,
             clock: self.clock,
-        }
-    }
-
-    // Back to slot 0, where it is past Check.
-    pub fn restart(self) -> Job
-        ensures { λ r. ⌜ r ≡ restarted self ⌝ }
-    {
-        let stage = self.stage;
-        match stage {
-            Stage::Free => self,
-            Stage::Hash(_) => self,
-            Stage::Check => self,
-            Stage::Match(_) => self.at_first_slot(),
         }
     }
 }

@@ -5,6 +5,7 @@ use Rattle.thm_serial.proofs.Lone as L
 use Rattle.thm_serial.proofs.Writing as W
 use Rattle.thm_serial.proofs.Copying as C
 use Rattle.thm_serial.proofs.Others as O
+use Rattle.thm_serial.proofs.Restarting as R
 use Rattle.thm_corollaries.specs.Laws.{Laws}
 use Rattle.thm_corollaries.proofs.Rereading.{discards-late}
 
@@ -19,6 +20,10 @@ laws =
       open-before = C.open-before;
       open-behind = C.open-behind;
       step-others = O.step-others;
+      ack-restarts = R.ack-restarts;
+      start-restarts = R.start-restarts;
+      end-restarts = R.end-restarts;
+      done-frees = R.done-frees;
       drop-others = O.drop-others;
       drop-made = O.drop-made;
       drop-table = O.drop-table;

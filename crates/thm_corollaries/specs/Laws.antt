@@ -12,9 +12,14 @@ use Rattle.das_answer.specs.declared.Answer.the-variants as A
 use Rattle.sched_state.specs.declared.Scheduler as D
 use Rattle.sched_state.specs.declared.Outcome.the-variants.{Done}
 use Rattle.sched_state.specs.Scheduler.{settingsOf, jobAt, openAt, lowestFree}
-use Rattle.sched_state.specs.Runs.{Call, Open, Step, Drop, World, call, run}
+use Rattle.sched_job.specs.Job.{freeJob, restarted}
+use Rattle.table_records.specs.Record.{Session}
+use Rattle.table_sessions.specs.declared.Inserted.the-variants.{Slot}
+use Rattle.table_sessions.specs.declared.Removed.the-variants.{Gone}
+use Rattle.table_sessions.specs.Session.{insertAnswer, removeAnswer}
+use Rattle.sched_state.specs.Runs.{Call, Open, Step, Drop, Start, End, World, call, run}
 use Rattle.thm_serial.specs.Steps.{acks, replies, awaits}
-use Rattle.thm_serial.specs.Demand3.{quiet, stepsTaken, world, later, New}
+use Rattle.thm_serial.specs.Demand3.{finishedBy, quiet, stepsTaken, world, later, New}
 
 -- 66 blocks of the longest request under the longest secret, (4096 + 64 + 8) / 64 + 1, then Check, 64 slots, Commit
 abbrev pub loneSteps : ℕ
@@ -44,6 +49,16 @@ pub record Laws : Type 0 where
   -- of the steps only an ACK sends others back to slot 0: one that does not end in ACK leaves every other job
   pub step-others : (j : ℕ) (w : World) (b : List ℕ) → acks (call (Step j b) w .out .outcome) ≡ false
       → (i : ℕ) → (i ≡ j → ⊥) → jobAt (call (Step j b) w .world .scheduler .jobs) i ≡ jobAt (w .scheduler .jobs) i
+  -- "An ACK, a session start and a session end each send every other job in Match or awaiting Commit back to slot 0, marks cleared.": `restarted` leaves any other
+  pub ack-restarts : (j : ℕ) (w : World) (b : List ℕ) → acks (call (Step j b) w .out .outcome) ≡ true
+      → (i : ℕ) → (i ≡ j → ⊥) → jobAt (call (Step j b) w .world .scheduler .jobs) i ≡ restarted (jobAt (w .scheduler .jobs) i)
+  pub start-restarts : (x : Session) (w : World) (k : ℕ) → insertAnswer x (w .table) ≡ Slot k
+      → (i : ℕ) → jobAt (call (Start x) w .world .scheduler .jobs) i ≡ restarted (jobAt (w .scheduler .jobs) i)
+  pub end-restarts : (k : ℕ) (w : World) → removeAnswer k (w .table) ≡ Gone
+      → (i : ℕ) → jobAt (call (End k) w .world .scheduler .jobs) i ≡ restarted (jobAt (w .scheduler .jobs) i)
+  -- "It is free again when a step finishes it.": ACK, NAK or discard
+  pub done-frees : (j : ℕ) (w : World) (b : List ℕ) → finishedBy (call (Step j b) w .out .outcome) ≡ true
+      → jobAt (call (Step j b) w .world .scheduler .jobs) j ≡ freeJob
   -- "Dropping a job frees it and changes nothing else.": no other job
   pub drop-others : (j : ℕ) (w : World) (i : ℕ) → (i ≡ j → ⊥) → jobAt (call (Drop j) w .world .scheduler .jobs) i ≡ jobAt (w .scheduler .jobs) i
   -- nor what the scheduler was made with

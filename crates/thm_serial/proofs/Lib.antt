@@ -21,6 +21,7 @@ pub mod Lone
 pub mod Sparing
 pub mod Writing
 pub mod Others
+pub mod Restarting
 pub mod Copying
 pub mod Keeping
 pub mod Owning
