@@ -1,10 +1,24 @@
 // Numbers in bytes, read and written, high byte first.
 ghost use mathlib.Core.Path.{_≡_};
 ghost use mathlib.Core.List.{[], _∷_};
-ghost use Prim.Native.Nat.{_+_, _*_, _≤_};
+ghost use Prim.Native.Nat.{_+_, _*_, _≤_, _<_};
 ghost use lib.ListN.{length};
 ghost use Rattle.octet_numbers.specs.Numbers.{be, beBytes};
 ghost use Rattle.octet_numbers.specs.Runs.{write};
+
+// A byte as a number of the machine's width.
+pub fn wide(x: u8) -> usize
+    ensures { λ r. ⌜ (r ≡ x) × (r < 256) ⌝ }
+{
+    x as usize
+}
+
+// Two bytes' worth as a number of the machine's width.
+pub fn wide16(x: u16) -> usize
+    ensures { λ r. ⌜ (r ≡ x) × (r < 65536) ⌝ }
+{
+    x as usize
+}
 
 // Two bytes as a number, high byte first.
 fn join16(a: u8, b: u8) -> u16
