@@ -9,10 +9,10 @@ use lib.ListN.{length, length-replicate}
 use Rattle.attr_walk.specs.declared.Attribute.{Attribute}
 use Rattle.attr_walk.specs.Attributes.{any, found, kindIs}
 use Rattle.attr_survey.specs.declared.Flags.{Flags}
-use Rattle.attr_survey.specs.Types.{unsupportedIn, misfitting, among, criteria, changes, firstRepeated, none}
+use Rattle.attr_types.specs.Types.{unsupportedIn, misfitting, among, criteria, changes, firstRepeated, none}
 use Rattle.attr_survey.specs.Survey.{zeros, seenAt, endOf, sizeOf, Counted}
 use Rattle.attr_survey.specs.Turns.{unmarked}
-use Rattle.attr_survey.proofs.Repeats.{same-seen}
+use Rattle.attr_types.proofs.Repeats.{same-seen}
 use Rattle.attr_survey.proofs.Types.{Number, First, zero-at, number-start, first-start, number-end, first-end}
 
 -- one flag: x so far

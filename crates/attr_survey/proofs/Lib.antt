@@ -1,9 +1,8 @@
-pub mod Table
-pub mod Rules
 pub mod Notes
 pub mod Marking
-pub mod Repeats
+pub mod Seen
 pub mod Types
 pub mod Held
 pub mod Turning
 pub mod Passes
+pub mod Areas

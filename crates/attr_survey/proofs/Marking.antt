@@ -4,8 +4,8 @@ use mathlib.Core.Path.{_≡_, ap, _∙_}
 use mathlib.Core.Bool.{Bool, _||_}
 use Prim.Native.Nat.{ℕ}
 use Rattle.attr_survey.specs.declared.Flags.{Flags}
-use Rattle.attr_survey.specs.Classes.{says}
-use Rattle.attr_survey.specs.Turns.{lacking, misfitBy, marked}
+use Rattle.attr_types.specs.Classes.{says, lacking, misfitBy}
+use Rattle.attr_survey.specs.Turns.{marked}
 
 pub flagged-says : (a b r : Bool) (w class : ℕ) → b ≡ says w class → r ≡ (a || b) → r ≡ (a || says w class)
 flagged-says a b r w class p q = q ∙ ap (λ (x : Bool). a || x) p

@@ -15,10 +15,10 @@ use Rattle.attr_walk.specs.Attributes.{stepAt, attributes, attributesFrom, tile
 use Rattle.attr_walk.proofs.Steps.{step-inv, found-placed}
 use Rattle.attr_walk.proofs.Walks.{walk-end, walk-bad, walk-found, tiles-end, tiles-bad}
 use Rattle.attr_survey.specs.declared.Flags.{Flags}
-use Rattle.attr_survey.specs.Classes.{classOf, says}
-use Rattle.attr_survey.specs.Survey.{Surveyed, seenAt}
+use Rattle.attr_types.specs.Classes.{classOf, says}
+use Rattle.attr_survey.specs.Survey.{Kept, Flagged, seenAt}
 use Rattle.attr_survey.specs.Turns.{marked, cut, countedAt, keptAt}
-use Rattle.attr_survey.proofs.Rules.{repeats-33, repeats-not}
+use Rattle.attr_types.proofs.Rules.{repeats-33, repeats-not}
 use Rattle.attr_survey.proofs.Held.{Held, ends-types}
 use Rattle.attr_survey.proofs.Turning.{turn-33, turn-empty, turn-other}
 
@@ -46,24 +46,35 @@ module _ (code : ℕ) (s : List ℕ) (w : List Attribute) (at : ℕ) (count ends
           (turn-other code w (attributesFrom s next) a count ends sizes f here (repeats-not (a .kind) b (t ∙ ap (says 64) e) y) small)
 
 module _ (code : ℕ) (s : List ℕ) (at : ℕ) (count ends sizes : List ℕ) (f : Flags) (i : Held code (attributesFrom s 0) (attributesFrom s at) count ends sizes f) (x : Step) (q : x ≡ stepAt s at) where
-  -- nothing is left: what is held is the answer
-  surveyed : attributesFrom s at ≡ [] → (t : Bool) → t ≡ tiled s
-      → Surveyed s code (record { tiled = t; unsupported = f .unsupported; service = f .service; repeated = f .repeated; misfit = f .misfit; criterion = f .criterion; change = f .change }) count ends sizes
-  surveyed e t y =
-      let o : Held code (attributes s) [] count ends sizes f = subst (λ (l : List Attribute). Held code (attributes s) l count ends sizes f) e i in
-      record {
-        tiles = y;
-        unsupported = sym (o .unsupported ∙ or-false (f .unsupported));
-        service = sym (o .service ∙ or-false (f .service));
-        repeated = sym (o .repeated ∙ or-false (f .repeated));
-        misfit = sym (o .misfit ∙ or-false (f .misfit));
-        criterion = sym (o .criterion ∙ or-false (f .criterion));
-        change = sym (o .change ∙ or-false (f .change));
-        types = λ k h. ends-types code (attributes s) count ends sizes f o k;
-      }
+  module _ (e : attributesFrom s at ≡ []) where
+    -- nothing is left: what is held is the answer
+    whole : Held code (attributes s) [] count ends sizes f
+    whole = subst (λ (l : List Attribute). Held code (attributes s) l count ends sizes f) e i
 
-  pub survey-end : tiledFrom s 0 ≡ tiledFrom s at → x ≡ End → Surveyed s code f count ends sizes
-  survey-end t r = surveyed (walk-end _ _ _ s at (sym q ∙ r)) (f .tiled) (i .tiled ∙ tiles-end s (tiledFrom s 0) at x t q r)
+    kept : Kept s count ends sizes
+    kept = record { types = λ k h. ends-types code (attributes s) count ends sizes f whole k }
 
-  pub survey-bad : tiledFrom s 0 ≡ tiledFrom s at → x ≡ Bad → (g : Flags) → g ≡ cut f → Surveyed s code g count ends sizes
-  survey-bad t r g e = rw e (surveyed (walk-bad _ _ _ s at (sym q ∙ r)) false (tiles-bad s (tiledFrom s 0) at x t q r))
+    flagged : (t : Bool) → t ≡ tiled s
+        → Flagged s code (record { tiled = t; unsupported = f .unsupported; service = f .service; repeated = f .repeated; misfit = f .misfit; criterion = f .criterion; change = f .change })
+    flagged t y =
+        record {
+          tiles = y;
+          unsupported = sym (whole .unsupported ∙ or-false (f .unsupported));
+          service = sym (whole .service ∙ or-false (f .service));
+          repeated = sym (whole .repeated ∙ or-false (f .repeated));
+          misfit = sym (whole .misfit ∙ or-false (f .misfit));
+          criterion = sym (whole .criterion ∙ or-false (f .criterion));
+          change = sym (whole .change ∙ or-false (f .change));
+        }
+
+  pub kept-end : x ≡ End → Kept s count ends sizes
+  kept-end r = kept (walk-end _ _ _ s at (sym q ∙ r))
+
+  pub kept-bad : x ≡ Bad → Kept s count ends sizes
+  kept-bad r = kept (walk-bad _ _ _ s at (sym q ∙ r))
+
+  pub flags-end : tiledFrom s 0 ≡ tiledFrom s at → x ≡ End → Flagged s code f
+  flags-end t r = flagged (walk-end _ _ _ s at (sym q ∙ r)) (f .tiled) (i .tiled ∙ tiles-end s (tiledFrom s 0) at x t q r)
+
+  pub flags-bad : tiledFrom s 0 ≡ tiledFrom s at → x ≡ Bad → (g : Flags) → g ≡ cut f → Flagged s code g
+  flags-bad t r g e = rw e (flagged (walk-bad _ _ _ s at (sym q ∙ r)) false (tiles-bad s (tiledFrom s 0) at x t q r))

@@ -12,14 +12,15 @@ use Rattle.attr_walk.specs.declared.Search.{Search}
 use Rattle.attr_walk.specs.declared.Search.the-variants.{At}
 use Rattle.attr_walk.specs.Attributes.{any, found, firstOf, kindIs}
 use Rattle.attr_survey.specs.declared.Flags.{Flags}
-use Rattle.attr_survey.specs.Types.{unsupportedIn, misfitting, among, criteria, changes, firstRepeated, also, none}
-use Rattle.attr_survey.specs.Classes.{classOf}
+use Rattle.attr_types.specs.Types.{unsupportedIn, misfitting, among, criteria, changes, firstRepeated, also, none}
+use Rattle.attr_types.specs.Classes.{classOf}
 use Rattle.attr_survey.specs.Survey.{seenAt, endOf, sizeOf}
 use Rattle.attr_survey.specs.Turns.{marked, countedAt, keptAt}
-use Rattle.attr_survey.proofs.Table.{says-criterion, says-change, says-service}
-use Rattle.attr_survey.proofs.Rules.{lacks-class, misfit-class, supported-33, fits-33}
+use Rattle.attr_types.proofs.Entries.{says-criterion, says-change, says-service}
+use Rattle.attr_types.proofs.Rules.{lacks-class, misfit-class, supported-33, fits-33}
 use Rattle.attr_survey.proofs.Notes.{counted-long, kept-long}
-use Rattle.attr_survey.proofs.Repeats.{same-seen, also-33, also-counted}
+use Rattle.attr_types.proofs.Repeats.{same-seen, also-33}
+use Rattle.attr_survey.proofs.Seen.{also-counted}
 use Rattle.attr_survey.proofs.Types.{number-turn, first-turn}
 use Rattle.attr_survey.proofs.Held.{Held, Flag}
 

@@ -1,4 +1,2 @@
-pub mod Types
-pub mod Classes
 pub mod Survey
 pub mod Turns

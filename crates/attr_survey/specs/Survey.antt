@@ -1,5 +1,5 @@
 -- What one pass over the attributes of an area tells: flags for the rules, and for each type how many there are (2 for any more) and where the first one ends.
--- For inner contracts and proofs: what flags and counts stand for is said in attr_survey/specs/Types.antt and attr_walk/specs/Attributes.antt.
+-- For inner contracts and proofs: what flags and counts stand for is said in attr_types/specs/Types.antt and attr_walk/specs/Attributes.antt.
 -- Assumes nothing.
 use mathlib.Core.Bool.{Bool, not}
 use mathlib.Core.List.{List}
@@ -12,7 +12,7 @@ use Rattle.attr_walk.specs.declared.Search.{Search}
 use Rattle.attr_walk.specs.declared.Search.the-variants.{At, Missing}
 use Rattle.attr_walk.specs.Attributes.{attributes, tiled, any, found, firstOf, countOf, kindIs}
 use Rattle.attr_survey.specs.declared.Flags as D
-use Rattle.attr_survey.specs.Types.{unsupportedIn, misfitting, among, criteria, changes, firstRepeated, none}
+use Rattle.attr_types.specs.Types.{unsupportedIn, misfitting, among, criteria, changes, firstRepeated, none}
 
 -- nothing noted yet
 unfoldable pub zeros : List ℕ
@@ -37,14 +37,18 @@ abbrev pub sizeOf : Search → ℕ
 sizeOf (At a) = a .size
 sizeOf Missing = 0
 
--- what is known of type k
+-- what is kept of type k: how many there are, 2 for any more, and where the first one ends
 pub record Counted (l : List Attribute) (k : ℕ) (count ends sizes : List ℕ) : Type 0 where
   pub number : getD count k 0 ≡ upToTwo (countOf (kindIs k) l)
   pub end : getD ends k 0 ≡ endOf (firstOf (kindIs k) l)
   pub size : getD sizes k 0 ≡ sizeOf (firstOf (kindIs k) l)
 
--- the pass over the area s of a request of this code
-pub record Surveyed (s : List ℕ) (code : ℕ) (r : D.Flags) (count ends sizes : List ℕ) : Type 0 where
+-- what a pass over the area s kept of each type but 33, which may repeat and is not counted
+pub record Kept (s : List ℕ) (count ends sizes : List ℕ) : Type 0 where
+  pub types : (k : ℕ) → k < 256 → (k ≡ 33 → ⊥) → Counted (attributes s) k count ends sizes
+
+-- the flags of a pass over the area s of a request of this code
+pub record Flagged (s : List ℕ) (code : ℕ) (r : D.Flags) : Type 0 where
   pub tiles : r .tiled ≡ tiled s
   pub unsupported : r .unsupported ≡ any (unsupportedIn code) (attributes s)
   pub service : r .service ≡ any (kindIs 6) (attributes s)
@@ -52,4 +56,3 @@ pub record Surveyed (s : List ℕ) (code : ℕ) (r : D.Flags) (count ends sizes 
   pub misfit : r .misfit ≡ any misfitting (attributes s)
   pub criterion : r .criterion ≡ any (among criteria) (attributes s)
   pub change : r .change ≡ any (among changes) (attributes s)
-  pub types : (k : ℕ) → k < 256 → (k ≡ 33 → ⊥) → Counted (attributes s) k count ends sizes

@@ -2,16 +2,12 @@
 ghost use mathlib.Core.Path.{_≡_};
 ghost use Prim.Native.Nat.{_≤_};
 ghost use lib.ListN.{length};
-ghost use Rattle.attr_survey.specs.Survey.{zeros, Surveyed};
-use classes::CLASSES;
-use classes::class_in;
-use classes::says;
+ghost use Rattle.attr_survey.specs.Survey.{zeros, Flagged, Kept};
 use counts::note;
 use marks::cut;
 use marks::marked;
 use marks::unmarked;
 
-mod classes;
 mod counts;
 mod marks;
 
@@ -43,9 +39,10 @@ pub fn survey(
     sizes: &mut [u8; 256],
 ) -> Flags
     requires { ⌜ (length (now s) ≤ 4096) × (now count ≡ zeros) × (now ends ≡ zeros) × (now sizes ≡ zeros) ⌝ }
-    ensures { λ r. ⌜ Surveyed (now (s .entry)) code r (now (count .exit)) (now (ends .exit)) (now (sizes .exit)) ⌝ }
+    ensures { λ r. ⌜ Flagged (now (s .entry)) code r ⌝ }
+    ensures { λ r. ⌜ Kept (now (s .entry)) (now (count .exit)) (now (ends .exit)) (now (sizes .exit)) ⌝ }
 {
-    let table = CLASSES;
+    let table = attr_types::table();
     let mut f = unmarked();
     let mut at: usize = 0;
     loop {
@@ -55,9 +52,9 @@ pub fn survey(
                 let size = a.size;
                 let end = next as u16;
                 at = next;
-                let class = class_in(&table, kind);
+                let class = attr_types::class_in(&table, kind);
                 // What may repeat is not counted, and breaks no rule but that on length 2.
-                if says(64, class) {
+                if attr_types::says(64, class) {
                     if size == 2 {
                         f = marked(f, code, class, size, false);
                         continue;

@@ -2,14 +2,14 @@
 ghost use mathlib.Core.Path.{_≡_};
 ghost use mathlib.Core.Bool.{_||_};
 ghost use Prim.Native.Nat.{_<_};
-ghost use Rattle.attr_survey.specs.Classes.{says};
+ghost use Rattle.attr_types.specs.Classes.{says};
 ghost use Rattle.attr_survey.specs.Turns.{unmarked, marked, cut};
 use crate::Flags;
-use crate::classes::lacks;
-use crate::classes::misfits;
-use crate::classes::says;
+use attr_types::lacks;
+use attr_types::misfits;
+use attr_types::says;
 
-// One or the other: a call, so that callers have no branches to join.
+// a or b. It is a function of its own, since a branch inside a caller would double what is to be proved there.
 fn either(a: bool, b: bool) -> bool
     ensures { λ r. ⌜ r ≡ a || b ⌝ }
 {
@@ -19,7 +19,7 @@ fn either(a: bool, b: bool) -> bool
     b
 }
 
-// A flag of the answer of this weight.
+// A flag, set too where the class gives the answer of this weight.
 fn flagged(a: bool, weight: u8, class: u8) -> bool
     requires { ⌜ 0 < weight ⌝ }
     ensures { λ r. ⌜ r ≡ a || says weight class ⌝ }
@@ -27,7 +27,7 @@ fn flagged(a: bool, weight: u8, class: u8) -> bool
     either(a, says(weight, class))
 }
 
-// Before the first attribute.
+// The flags before the first attribute.
 pub fn unmarked() -> Flags
     ensures { λ r. ⌜ r ≡ unmarked ⌝ }
 {
@@ -42,7 +42,7 @@ pub fn unmarked() -> Flags
     }
 }
 
-// With all answers on an attribute, and whether its type was there before.
+// The flags after one more attribute of this class and length; again says that its type was there before.
 pub fn marked(f: Flags, code: u8, class: u8, size: u8, again: bool) -> Flags
     ensures { λ r. ⌜ r ≡ marked code class size again f ⌝ }
 {
@@ -57,7 +57,7 @@ pub fn marked(f: Flags, code: u8, class: u8, size: u8, again: bool) -> Flags
     }
 }
 
-// The area does not end behind an attribute.
+// The flags where no attribute stands before the area's end.
 pub fn cut(f: Flags) -> Flags
     ensures { λ r. ⌜ r ≡ cut f ⌝ }
 {

@@ -8,7 +8,7 @@ use borrow.Author.Tests.{eq-eqb, ne-eqb}
 use lib.IntN.{ℤ}
 use Rattle.octet_numbers.specs.Runs.{write}
 use Rattle.attr_walk.specs.Attributes.{attributes, any}
-use Rattle.attr_survey.specs.Types.{misfitting}
+use Rattle.attr_types.specs.Types.{misfitting}
 use Rattle.table_slots.specs.Slot.{slotCount}
 use Rattle.table_change.specs.declared.Change.{Change}
 use Rattle.table_change.specs.Change.{changeMarked, countMarked}

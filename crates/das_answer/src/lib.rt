@@ -5,10 +5,10 @@ ghost use Prim.Native.Nat.{_≤_};
 ghost use lib.ListN.{length};
 ghost use Rattle.octet_numbers.specs.Runs.{write};
 ghost use Rattle.attr_walk.specs.Attributes.{attributes, any};
-ghost use Rattle.attr_survey.specs.Survey.{Surveyed};
-ghost use Rattle.attr_survey.specs.Types.{misfitting};
+ghost use Rattle.attr_survey.specs.Survey.{Kept};
+ghost use Rattle.attr_types.specs.Types.{misfitting};
 ghost use Rattle.rule_causes.specs.declared.Cause.the-variants.{SessionNotFound, NoCause};
-ghost use Rattle.packet_form.specs.Packet.{codeOf, areaOf};
+ghost use Rattle.packet_form.specs.Packet.{areaOf};
 ghost use Rattle.packet_form.specs.Discards.{formOf, Sized};
 ghost use Rattle.das_reply_parts.specs.Reply.{replyLength, replyOf};
 ghost use Rattle.das_answer.specs.declared.Answer.the-variants.{Nak};
@@ -33,18 +33,17 @@ pub fn nak(
     secret: &[u8],
     cause: rule_causes::Cause,
     skew: i64,
-    f: attr_survey::Flags,
     count: &[u8; 256],
     ends: &[u16; 256],
     sizes: &[u8; 256],
 ) -> Answer
     requires { ⌜ Sized (now p) n × (formOf (now p) ≡ 0) ⌝ }
-    requires { ⌜ Surveyed (areaOf (now p)) (codeOf (now p)) f (now count) (now ends) (now sizes) ⌝ }
+    requires { ⌜ Kept (areaOf (now p)) (now count) (now ends) (now sizes) ⌝ }
     requires { ⌜ (replyLength (now p) cause ≤ 4096) × (4096 ≤ length (now reply)) ⌝ }
     ensures { λ r. ⌜ r ≡ Nak cause skew (replyLength (now (p .entry)) cause) ⌝ }
     ensures { λ r. ⌜ now (reply .exit) ≡ write (now (reply .entry)) 0 (replyOf (now (secret .entry)) (now (p .entry)) cause) ⌝ }
 {
-    let size = das_reply::write_reply(reply, p, n, secret, cause, f, count, ends, sizes);
+    let size = das_reply::write_reply(reply, p, n, secret, cause, count, ends, sizes);
     Answer::Nak(cause, skew, size)
 }
 
@@ -57,20 +56,19 @@ pub fn commit(
     n: usize,
     secret: &[u8],
     skew: i64,
-    f: attr_survey::Flags,
     count: &[u8; 256],
     ends: &[u16; 256],
     sizes: &[u8; 256],
 ) -> Answer
     requires { ⌜ Sized (now p) n × (formOf (now p) ≡ 0) × (any misfitting (attributes (areaOf (now p))) ≡ false) ⌝ }
-    requires { ⌜ Surveyed (areaOf (now p)) (codeOf (now p)) f (now count) (now ends) (now sizes) ⌝ }
+    requires { ⌜ Kept (areaOf (now p)) (now count) (now ends) (now sizes) ⌝ }
     requires { ⌜ (replyLength (now p) SessionNotFound ≤ 4096) × (replyLength (now p) NoCause ≤ 4096) × (4096 ≤ length (now reply)) ⌝ }
     ensures { λ r. ⌜ r ≡ commitAnswer (now (p .entry)) (now (marks .entry)) (now (t .entry)) skew ⌝ }
     ensures { λ r. ⌜ now (t .exit) ≡ commitTable (now (p .entry)) (now (marks .entry)) (now (t .entry)) ⌝ }
     ensures { λ r. ⌜ now (reply .exit) ≡ replyAs (now (secret .entry)) (now (p .entry)) (now (reply .entry)) (commitAnswer (now (p .entry)) (now (marks .entry)) (now (t .entry)) skew) ⌝ }
 {
     let s = octet_runs::slice(p, 20, n - 20);
-    let c = das_effects::change(s, p[0], f, count, ends, sizes);
+    let c = das_effects::change(s, p[0], count, ends, sizes);
     let changed = table_change::change_marked(t, s, marks, c);
     if changed == 0 {
         return nak(
@@ -80,7 +78,6 @@ pub fn commit(
             secret,
             rule_causes::Cause::SessionNotFound,
             skew,
-            f,
             count,
             ends,
             sizes,
@@ -92,7 +89,6 @@ pub fn commit(
         n,
         secret,
         rule_causes::Cause::NoCause,
-        f,
         count,
         ends,
         sizes,

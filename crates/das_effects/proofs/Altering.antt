@@ -13,10 +13,10 @@ use Rattle.attr_walk.specs.declared.Search.{Search}
 use Rattle.attr_walk.specs.declared.Search.the-variants.{At, Missing}
 use Rattle.attr_walk.specs.Attributes.{attributes, any, found, firstOf, kindIs}
 use Rattle.attr_walk.proofs.Stands.{first-placed}
-use Rattle.attr_survey.specs.declared.Flags.{Flags}
-use Rattle.attr_survey.specs.Survey.{Surveyed, endOf, sizeOf, seenAt}
+use Rattle.attr_survey.specs.Survey.{Kept, endOf, sizeOf, seenAt}
 use Rattle.attr_lookup.proofs.Values.{seen-any}
-use Rattle.attr_survey.specs.Types.{member, sixTypes, misfitting}
+use Rattle.octet_numbers.specs.Runs.{member}
+use Rattle.attr_types.specs.Types.{sixTypes, misfitting}
 use Rattle.rule_causes.proofs.Passed.{first-six}
 use Rattle.table_change.specs.declared.Change.the-variants.{End, Alter}
 use Rattle.table_change.specs.declared.Number.{Number}
@@ -25,7 +25,8 @@ use Rattle.table_change.specs.declared.Alteration.{Alteration}
 use Rattle.table_change.specs.declared.Text.{Text}
 use Rattle.table_change.specs.declared.Text.the-variants.{Same, Value}
 use Rattle.das_effects.specs.Changes.{numberAt, textAt, alterationOf, changeOf}
-use Rattle.das_effects.specs.Kept.{keptPlace, keptNumber, keptText}
+use Rattle.attr_lookup.specs.Lookup.{keptPlace}
+use Rattle.das_effects.specs.Taken.{takenNumber, takenText}
 
 number-in : (area : List ℕ) (z : Search) (b : Bool) (end size : ℕ) → b ≡ found z → end ≡ endOf z → size ≡ sizeOf z → cond b (Set (be (end - size + 2) 4 area)) Keep ≡ numberAt area z
 number-in area (At a) b end size h e g = let o : end - size ≡ a .at = omega arith in rw (h, o)
@@ -35,18 +36,18 @@ text-in : (z : Search) (b : Bool) (end size : ℕ) → b ≡ found z → end ≡
 text-in (At a) b end size h e g = let o : end - size ≡ a .at = omega arith in rw (h, o, g)
 text-in Missing b end size h e g = rw h
 
-module _ (area : List ℕ) (code : ℕ) (f : Flags) (count ends sizes : List ℕ) (surveyed : Surveyed area code f count ends sizes) where
-  number-kept : (k : ℕ) → k < 256 → (k ≡ 33 → ⊥) → keptNumber area k count ends sizes ≡ numberAt area (firstOf (kindIs k) (attributes area))
-  unfolding keptNumber
+module _ (area : List ℕ) (count ends sizes : List ℕ) (surveyed : Kept area count ends sizes) where
+  number-kept : (k : ℕ) → k < 256 → (k ≡ 33 → ⊥) → takenNumber area k count ends sizes ≡ numberAt area (firstOf (kindIs k) (attributes area))
+  unfolding takenNumber
   number-kept k h n =
       let known = surveyed .types k h n in
-      number-in area (firstOf (kindIs k) (attributes area)) (seenAt count k) (getD ends k 0) (getD sizes k 0) (seen-any area code f count ends sizes surveyed k h n) (known .end) (known .size)
+      number-in area (firstOf (kindIs k) (attributes area)) (seenAt count k) (getD ends k 0) (getD sizes k 0) (seen-any area count ends sizes surveyed k h n) (known .end) (known .size)
 
-  text-kept : (k : ℕ) → k < 256 → (k ≡ 33 → ⊥) → keptText k count ends sizes ≡ textAt (firstOf (kindIs k) (attributes area))
-  unfolding keptText
+  text-kept : (k : ℕ) → k < 256 → (k ≡ 33 → ⊥) → takenText k count ends sizes ≡ textAt (firstOf (kindIs k) (attributes area))
+  unfolding takenText
   text-kept k h n =
       let known = surveyed .types k h n in
-      text-in (firstOf (kindIs k) (attributes area)) (seenAt count k) (getD ends k 0) (getD sizes k 0) (seen-any area code f count ends sizes surveyed k h n) (known .end) (known .size)
+      text-in (firstOf (kindIs k) (attributes area)) (seenAt count k) (getD ends k 0) (getD sizes k 0) (seen-any area count ends sizes surveyed k h n) (known .end) (known .size)
 
   -- a number of length 6 lies in the area
   six-inside : (k : ℕ) (z : Search) → z ≡ firstOf (kindIs k) (attributes area) → found z ≡ true → any misfitting (attributes area) ≡ false → member k sixTypes ≡ true → endOf z - sizeOf z + 2 + 4 ≤ length area
@@ -59,7 +60,7 @@ module _ (area : List ℕ) (code : ℕ) (f : Flags) (count ends sizes : List ℕ
   number-inside : (k : ℕ) → k < 256 → (k ≡ 33 → ⊥) → any misfitting (attributes area) ≡ false → member k sixTypes ≡ true → seenAt count k ≡ true → keptPlace k ends sizes + 4 ≤ length area
   number-inside k h n misfit six seen =
       let known = surveyed .types k h n in
-      rw (known .end, known .size) (six-inside k (firstOf (kindIs k) (attributes area)) refl (sym (seen-any area code f count ends sizes surveyed k h n) ∙ seen) misfit six)
+      rw (known .end, known .size) (six-inside k (firstOf (kindIs k) (attributes area)) refl (sym (seen-any area count ends sizes surveyed k h n) ∙ seen) misfit six)
 
   pub timeout-inside : any misfitting (attributes area) ≡ false → seenAt count 27 ≡ true → keptPlace 27 ends sizes + 4 ≤ length area
   timeout-inside misfit = number-inside 27 (lit< tt) (λ i. omega arith) misfit refl
@@ -67,7 +68,7 @@ module _ (area : List ℕ) (code : ℕ) (f : Flags) (count ends sizes : List ℕ
   pub idle-inside : any misfitting (attributes area) ≡ false → seenAt count 28 ≡ true → keptPlace 28 ends sizes + 4 ≤ length area
   idle-inside misfit = number-inside 28 (lit< tt) (λ i. omega arith) misfit refl
 
-  pub altered-as : (x y : Number) (z : Text) → x ≡ keptNumber area 27 count ends sizes → y ≡ keptNumber area 28 count ends sizes → z ≡ keptText 11 count ends sizes
+  pub altered-as : (x y : Number) (z : Text) → x ≡ takenNumber area 27 count ends sizes → y ≡ takenNumber area 28 count ends sizes → z ≡ takenText 11 count ends sizes
       → record { timeout = x; idle = y; filter = z } ≡ alterationOf area
   unfolding alterationOf
   altered-as x y z e g h =

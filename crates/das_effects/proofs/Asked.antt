@@ -13,11 +13,10 @@ use Rattle.attr_walk.specs.declared.Search.{Search}
 use Rattle.attr_walk.specs.declared.Search.the-variants.{At, Missing}
 use Rattle.attr_walk.specs.Attributes.{attributes, valueOf, found, firstOf, kindIs, onFirst}
 use Rattle.attr_walk.proofs.Searches.{only}
-use Rattle.attr_survey.specs.declared.Flags.{Flags}
-use Rattle.attr_survey.specs.Types.{firstRepeated, none}
-use Rattle.attr_survey.specs.Survey.{Surveyed, endOf, sizeOf}
-use Rattle.attr_survey.specs.Turns.{keptValue}
-use Rattle.attr_survey.proofs.Repeats.{at-most-once}
+use Rattle.attr_types.specs.Types.{firstRepeated, none}
+use Rattle.attr_survey.specs.Survey.{Kept, endOf, sizeOf}
+use Rattle.attr_lookup.specs.Lookup.{keptValue}
+use Rattle.attr_types.proofs.Repeats.{at-most-once}
 use Rattle.attr_lookup.proofs.Values.{kept-attribute, seen-any}
 use Rattle.table_criteria.specs.declared.Criterion.{Criterion}
 use Rattle.table_criteria.specs.declared.Field.{Field}
@@ -26,7 +25,7 @@ use Rattle.table_slots.specs.Slot.{slot}
 use Rattle.table_criteria.specs.Matching.{fieldBytes, meets, all, matches, matchesAt}
 use Rattle.table_criteria.specs.Marks.{marksAfter}
 use Rattle.table_criteria.proofs.Marked.{marks-same}
-use Rattle.das_effects.specs.Kept.{ifKept, keptCriteria}
+use Rattle.das_effects.specs.Taken.{takenCriterion, ifThere, takenCriteria}
 use Rattle.das_effects.specs.Matching.{equalsField, allOf, sessionMatches, matchesIn}
 use Rattle.das_effects.proofs.Five.{asks, five, all-same, all-both, all-none}
 
@@ -40,12 +39,12 @@ module _ (area s : List ℕ) where
   same x a = equalBytes (valueOf area a) (fieldBytes x s)
 
   -- the criterion made of what was kept of the first of a type
-  first-asks : (x : Field) (e n : ℕ) (z : Search) → e ≡ endOf z → n ≡ sizeOf z
-      → all (meets area s) (cond (found z) (record { field = x; at = e - n + 2; size = n - 2 } ∷ []) []) ≡ not (onFirst (λ a. not (same x a)) z)
+  first-asks : (x : Field) (k : ℕ) (ends sizes : List ℕ) (z : Search) → getD ends k 0 ≡ endOf z → getD sizes k 0 ≡ sizeOf z
+      → all (meets area s) (cond (found z) (takenCriterion x k ends sizes ∷ []) []) ≡ not (onFirst (λ a. not (same x a)) z)
   unfolding meets keptValue
-  first-asks x e n (At a) p q =
-      rw (p, q, and-true, Bool·not-not (same x a)) (ap (λ (v : List ℕ). equalBytes v (fieldBytes x s)) (kept-attribute area a))
-  first-asks x e n Missing p q = refl
+  first-asks x k ends sizes (At a) p q =
+      rw (and-true, Bool·not-not (same x a)) (ap (λ (v : List ℕ). equalBytes v (fieldBytes x s)) (kept-attribute area a k ends sizes p q))
+  first-asks x k ends sizes Missing p q = refl
 
   -- what the attributes of a type ask
   abbrev by : ℕ → Field → Attribute → Bool
@@ -56,16 +55,16 @@ module _ (area s : List ℕ) where
   all-five l =
       simp and-assoc (rw (← all-both, ← all-both, ← all-both, ← all-both) (all-same _ _ l (λ a. five (a .kind) (λ y. same y a))))
 
-  module _ (code : ℕ) (f : Flags) (count ends sizes : List ℕ) (i : Surveyed area code f count ends sizes) (once : found (firstRepeated none (attributes area)) ≡ false) where
-    one : (x : Field) (k : ℕ) → k < 256 → (k ≡ 33 → ⊥) → all (meets area s) (ifKept x k count ends sizes) ≡ allOf (by k x) (attributes area)
-    unfolding ifKept
+  module _ (count ends sizes : List ℕ) (i : Kept area count ends sizes) (once : found (firstRepeated none (attributes area)) ≡ false) where
+    one : (x : Field) (k : ℕ) → k < 256 → (k ≡ 33 → ⊥) → all (meets area s) (ifThere x k count ends sizes) ≡ allOf (by k x) (attributes area)
+    unfolding ifThere
     one x k h ne =
-        rw (seen-any area code f count ends sizes i k h ne) (first-asks x (getD ends k 0) (getD sizes k 0) (firstOf (kindIs k) (attributes area)) (i .types k h ne .end) (i .types k h ne .size))
+        rw (seen-any area count ends sizes i k h ne) (first-asks x k ends sizes (firstOf (kindIs k) (attributes area)) (i .types k h ne .end) (i .types k h ne .size))
         ∙ ap not (sym (only (kindIs k) (λ a. not (same x a)) (attributes area) (at-most-once (attributes area) once k ne)))
         ∙ sym (all-none (kindIs k) (same x) (attributes area))
 
-    asked : all (meets area s) (keptCriteria count ends sizes) ≡ allOf (equalsField area s) (attributes area)
-    unfolding keptCriteria
+    asked : all (meets area s) (takenCriteria count ends sizes) ≡ allOf (equalsField area s) (attributes area)
+    unfolding takenCriteria
     asked =
         rw (
           all-append,
@@ -80,12 +79,12 @@ module _ (area s : List ℕ) where
         )
         (sym (all-five (attributes area)))
 
-    pub kept-match : matches area (keptCriteria count ends sizes) s ≡ sessionMatches area s
+    pub kept-match : matches area (takenCriteria count ends sizes) s ≡ sessionMatches area s
     unfolding matches sessionMatches
     kept-match = rw asked
 
 -- so the walk over the slots marks the same
-pub kept-marks : (area t : List ℕ) (k code : ℕ) (f : Flags) (count ends sizes : List ℕ) → Surveyed area code f count ends sizes → found (firstRepeated none (attributes area)) ≡ false
-    → marksAfter (matchesAt area (keptCriteria count ends sizes) t) k ≡ marksAfter (matchesIn area t) k
-kept-marks area t k code f count ends sizes i once =
-    marks-same (matchesAt area (keptCriteria count ends sizes) t) (matchesIn area t) k (λ j h. kept-match area (slot j t) code f count ends sizes i once)
+pub kept-marks : (area t : List ℕ) (k : ℕ) (count ends sizes : List ℕ) → Kept area count ends sizes → found (firstRepeated none (attributes area)) ≡ false
+    → marksAfter (matchesAt area (takenCriteria count ends sizes) t) k ≡ marksAfter (matchesIn area t) k
+kept-marks area t k count ends sizes i once =
+    marks-same (matchesAt area (takenCriteria count ends sizes) t) (matchesIn area t) k (λ j h. kept-match area (slot j t) count ends sizes i once)

@@ -10,7 +10,8 @@ use Rattle.attr_walk.specs.declared.Attribute.{Attribute}
 use Rattle.attr_walk.specs.declared.Search.{Search}
 use Rattle.attr_walk.specs.declared.Search.the-variants.{At}
 use Rattle.attr_walk.specs.Attributes.{any, found, firstOf}
-use Rattle.attr_survey.specs.Types.{member, criteria}
+use Rattle.octet_numbers.specs.Runs.{member}
+use Rattle.attr_types.specs.Types.{criteria}
 use Rattle.table_criteria.specs.declared.Field.{Field}
 use Rattle.table_criteria.specs.declared.Field.the-variants.{UserName, NasPort, FramedAddress, CallingStation, SessionId}
 use Rattle.das_effects.specs.Matching.{fieldFor, allOf}

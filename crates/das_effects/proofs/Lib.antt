@@ -1,4 +1,4 @@
-pub mod Taken
+pub mod Counted
 pub mod Altering
 pub mod Five
 pub mod Asked

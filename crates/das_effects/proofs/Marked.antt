@@ -7,16 +7,15 @@ use Prim.Native.Nat.{ℕ, zero, suc, _+_}
 use native.Mathlib.Omega.{arith}
 use Rattle.octet_numbers.proofs.Equality.{and-both}
 use Rattle.attr_walk.specs.Attributes.{attributes, found}
-use Rattle.attr_survey.specs.declared.Flags.{Flags}
-use Rattle.attr_survey.specs.Types.{firstRepeated, none}
-use Rattle.attr_survey.specs.Survey.{Surveyed}
+use Rattle.attr_types.specs.Types.{firstRepeated, none}
+use Rattle.attr_survey.specs.Survey.{Kept}
 use Rattle.table_slots.specs.Slot.{slotCount, slot, live}
 use Rattle.table_criteria.specs.Matching.{matchesAt}
 use Rattle.table_criteria.specs.Marks.{marksAfter, countTo}
 use Rattle.table_change.specs.declared.Change.{Change}
 use Rattle.table_change.specs.Change.{changeAt, changeWhere, marked, changeMarked, countMarked}
 use Rattle.table_change.proofs.Changed.{named-changed, named-counted}
-use Rattle.das_effects.specs.Kept.{keptCriteria}
+use Rattle.das_effects.specs.Taken.{takenCriteria}
 use Rattle.das_effects.specs.Matching.{sessionMatches, matchesIn, matchCount}
 use Rattle.das_effects.specs.Changes.{changeOf, changeMatching}
 use Rattle.das_effects.proofs.Asked.{kept-marks}
@@ -47,14 +46,14 @@ none-marked area c marks (suc k) t e =
 
 -- ---- the walk by the criteria that the pass kept: m is its marks
 
-module _ (area t m : List ℕ) (code : ℕ) (f : Flags) (count ends sizes : List ℕ) (i : Surveyed area code f count ends sizes) (once : found (firstRepeated none (attributes area)) ≡ false)
-    (e : m ≡ marksAfter (matchesAt area (keptCriteria count ends sizes) t) (slotCount t)) where
+module _ (area t m : List ℕ) (count ends sizes : List ℕ) (i : Kept area count ends sizes) (once : found (firstRepeated none (attributes area)) ≡ false)
+    (e : m ≡ marksAfter (matchesAt area (takenCriteria count ends sizes) t) (slotCount t)) where
   matching : m ≡ marksAfter (matchesIn area t) (slotCount t)
-  matching = e ∙ kept-marks area t (slotCount t) code f count ends sizes i once
+  matching = e ∙ kept-marks area t (slotCount t) count ends sizes i once
 
-  pub marks-change : changeMarked area (changeOf code area) m (slotCount t) t ≡ changeMatching code area t
+  pub marks-change : (code : ℕ) → changeMarked area (changeOf code area) m (slotCount t) t ≡ changeMatching code area t
   unfolding changeMatching
-  marks-change = rw matching (changed-matching area t (changeOf code area))
+  marks-change code = rw matching (changed-matching area t (changeOf code area))
 
   pub marks-count : countMarked m (slotCount t) t ≡ matchCount area t
   marks-count = rw matching (counted-matching area t)

@@ -1,3 +1,3 @@
 pub mod Matching
 pub mod Changes
-pub mod Kept
+pub mod Taken

@@ -8,7 +8,7 @@ use lib.Dec.{eqb}
 use Rattle.octet_numbers.specs.Runs.{equalBytes}
 use Rattle.attr_walk.specs.declared.Attribute.{Attribute}
 use Rattle.attr_walk.specs.Attributes.{attributes, valueOf}
-use Rattle.attr_survey.specs.Types.{among, criteria}
+use Rattle.attr_types.specs.Types.{among, criteria}
 use Rattle.table_criteria.specs.declared.Field.{Field}
 use Rattle.table_criteria.specs.declared.Field.the-variants.{UserName, NasPort, FramedAddress, CallingStation, SessionId}
 use Rattle.table_slots.specs.Slot.{live, slot, slotCount}

@@ -11,7 +11,7 @@ use lib.IntN.{ℤ}
 use Rattle.octet_numbers.specs.Runs.{write}
 use Rattle.attr_walk.specs.Attributes.{attributes, found}
 use Rattle.attr_survey.specs.declared.Flags.{Flags}
-use Rattle.attr_survey.specs.Types.{firstRepeated, none}
+use Rattle.attr_types.specs.Types.{firstRepeated, none}
 use Rattle.attr_survey.specs.Survey.{Surveyed}
 use Rattle.table_criteria.specs.declared.Criterion.{Criterion}
 use Rattle.table_slots.specs.Slot.{slotCount}

@@ -5,7 +5,7 @@ ghost use Prim.Native.Nat.{_≤_};
 ghost use lib.ListN.{length};
 ghost use Rattle.attr_walk.specs.Attributes.{attributes, any, found};
 ghost use Rattle.attr_survey.specs.Survey.{Surveyed};
-ghost use Rattle.attr_survey.specs.Types.{misfitting, firstRepeated, none};
+ghost use Rattle.attr_types.specs.Types.{misfitting, firstRepeated, none};
 ghost use Rattle.rule_causes.specs.declared.Cause.the-variants.{SessionNotFound, NoCause};
 ghost use Rattle.packet_form.specs.Packet.{codeOf, areaOf};
 ghost use Rattle.nas_settings.specs.Settings.{settings};

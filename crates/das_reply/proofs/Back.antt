@@ -6,7 +6,7 @@ use mathlib.Core.List.{List, _++_}
 use Prim.Native.Nat.{ℕ, _+_, _≤_}
 use Rattle.rule_causes.specs.declared.Cause.{Cause}
 use Rattle.packet_form.specs.Packet.{codeOf, identifierOf, lengthOf, authOf, areaOf}
-use Rattle.rule_verdict.specs.Verdict.{applies}
+use Rattle.rule_causes.specs.Causes.{applies}
 use Rattle.das_reply_parts.specs.Reply.{bodyOf, maced, replyLength, headOf, replyMac, replyAuth, replyOf}
 use Rattle.packet_write.specs.Packets.{macValued, packet, packetLength, signedPacket}
 use Rattle.das_reply.proofs.Readback.{signed-code, signed-identifier, signed-length, signed-auth, signed-area}

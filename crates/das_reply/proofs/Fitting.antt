@@ -14,10 +14,9 @@ use Rattle.packet_auth.specs.Signing.{zeros}
 use Rattle.packet_auth.proofs.Messages.{length-zeros}
 use Rattle.attr_survey.specs.Survey.{sizeOf}
 use Rattle.rule_causes.specs.declared.Cause.{Cause}
-use Rattle.rule_causes.specs.Causes.{errorCause}
+use Rattle.rule_causes.specs.Causes.{applies, errorCause}
 use Rattle.packet_form.specs.Packet.{areaOf}
 use Rattle.packet_form.specs.Discards.{Sized}
-use Rattle.rule_verdict.specs.Verdict.{applies}
 use Rattle.das_reply_parts.specs.Reply.{statePart, causePart, proxyPart, bodyOf, replyLength}
 use Rattle.packet_write.specs.Packets.{macValued, packetLength}
 use Rattle.das_reply.proofs.Sums.{sumOf, total-fits, first-size, length-found, length-proxies, four-types}

@@ -8,7 +8,7 @@ use native.Mathlib.Omega.{arith}
 use lib.IntN.{ℤ}
 use Rattle.attr_walk.specs.Attributes.{attributes, any, found}
 use Rattle.packet_auth.specs.Signing.{zeros}
-use Rattle.attr_survey.specs.Types.{misfitting, firstRepeated, none}
+use Rattle.attr_types.specs.Types.{misfitting, firstRepeated, none}
 use Rattle.rule_stamp.specs.declared.Stamp.{Stamp}
 use Rattle.rule_stamp.specs.declared.Stamp.the-variants.{Usable, Unusable}
 use Rattle.rule_stamp.specs.Stamp.{stampOf, stale, skewOf}

@@ -11,8 +11,7 @@ use lib.ListN.{length, length-append}
 use Rattle.octet_numbers.specs.Runs.{part, write}
 use Rattle.octet_numbers.proofs.Write.{write-then}
 use Rattle.packet_auth.specs.Signing.{zeros, authenticator}
-use Rattle.attr_survey.specs.declared.Flags.{Flags}
-use Rattle.attr_survey.specs.Survey.{Surveyed, seenAt}
+use Rattle.attr_survey.specs.Survey.{Kept, seenAt}
 use Rattle.attr_lookup.proofs.Values.{seen-any}
 use Rattle.rule_causes.specs.declared.Cause.{Cause}
 use Rattle.packet_form.specs.Packet.{codeOf, authOf, areaOf}
@@ -48,10 +47,10 @@ module _ (p s : List ℕ) (n : ℕ) (c : Cause) (sized : Sized p n) (area : s �
   unfolding replyLength packetLength
   body-fits m h g = rw body-is (omega arith)
 
-  module _ (f : Flags) (count ends sizes : List ℕ) (surveyed : Surveyed (areaOf p) (codeOf p) f count ends sizes) (present : Bool) (seen : present ≡ seenAt count 80)
+  module _ (count ends sizes : List ℕ) (kept : Kept (areaOf p) count ends sizes) (present : Bool) (seen : present ≡ seenAt count 80)
       (b : ℕ) (hb : b ≡ 20 + length (statePart s ++ causePart c ++ proxyPart s)) where
     present-is : present ≡ maced p
-    present-is = seen ∙ seen-any (areaOf p) (codeOf p) f count ends sizes surveyed 80 (lit< tt) (λ e. omega arith)
+    present-is = seen ∙ seen-any (areaOf p) count ends sizes kept 80 (lit< tt) (λ e. omega arith)
 
     room-is : macRoom present ≡ macValued (maced p) zeros
     unfolding macRoom macValued

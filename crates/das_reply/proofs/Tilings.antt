@@ -19,9 +19,8 @@ use Rattle.attr_walk.proofs.Steps.{step-inv}
 use Rattle.attr_walk.proofs.Stands.{first-stands, member-stands}
 use Rattle.attr_walk.proofs.Areas.{placed-bytes}
 use Rattle.rule_causes.specs.declared.Cause.{Cause}
-use Rattle.rule_causes.specs.Causes.{errorCause}
+use Rattle.rule_causes.specs.Causes.{applies, errorCause}
 use Rattle.packet_form.specs.Packet.{areaOf}
-use Rattle.rule_verdict.specs.Verdict.{applies}
 use Rattle.das_reply_parts.specs.Reply.{asCame, ifFound, statePart, causePart, proxiesIn, proxyPart, bodyOf}
 use Rattle.das_reply.proofs.Plain.{Plain, plain-nil, plain-both, plain-bytes}
 

@@ -3,8 +3,8 @@ ghost use mathlib.Core.Path.{_≡_};
 ghost use Prim.Native.Nat.{_≤_};
 ghost use lib.ListN.{length};
 ghost use Rattle.octet_numbers.specs.Runs.{write};
-ghost use Rattle.attr_survey.specs.Survey.{Surveyed};
-ghost use Rattle.packet_form.specs.Packet.{codeOf, areaOf};
+ghost use Rattle.attr_survey.specs.Survey.{Kept};
+ghost use Rattle.packet_form.specs.Packet.{areaOf};
 ghost use Rattle.packet_form.specs.Discards.{formOf, Sized};
 ghost use Rattle.das_reply_parts.specs.Reply.{replyLength, replyOf};
 
@@ -16,13 +16,12 @@ pub fn write_reply(
     n: usize,
     secret: &[u8],
     cause: rule_causes::Cause,
-    f: attr_survey::Flags,
     count: &[u8; 256],
     ends: &[u16; 256],
     sizes: &[u8; 256],
 ) -> usize
     requires { ⌜ Sized (now p) n × (formOf (now p) ≡ 0) ⌝ }
-    requires { ⌜ Surveyed (areaOf (now p)) (codeOf (now p)) f (now count) (now ends) (now sizes) ⌝ }
+    requires { ⌜ Kept (areaOf (now p)) (now count) (now ends) (now sizes) ⌝ }
     requires { ⌜ (replyLength (now p) cause ≤ 4096) × (4096 ≤ length (now reply)) ⌝ }
     ensures { λ r. ⌜ now (reply .exit) ≡ write (now (reply .entry)) 0 (replyOf (now (secret .entry)) (now (p .entry)) cause) ⌝ }
     ensures { λ r. ⌜ r ≡ replyLength (now (p .entry)) cause ⌝ }
@@ -30,7 +29,7 @@ pub fn write_reply(
     let s = octet_runs::slice(p, 20, n - 20);
     let auth = octet_runs::slice(p, 4, 16);
     let present = attr_lookup::has(count, 80);
-    let body = das_reply_parts::put_body(&mut *reply, s, p[0], cause, f, count, ends, sizes);
+    let body = das_reply_parts::put_body(&mut *reply, s, cause, count, ends, sizes);
     let e = packet_write::put_room(&mut *reply, body, present);
     das_reply_parts::put_head(&mut *reply, p, cause, e, auth);
     packet_write::seal::put_seals(reply, e, auth, secret, present);

@@ -20,9 +20,8 @@ use Rattle.attr_walk.proofs.Steps.{step-inv}
 use Rattle.attr_walk.proofs.Stands.{found-value}
 use Rattle.attr_walk.proofs.Areas.{placed-bytes}
 use Rattle.rule_causes.specs.declared.Cause.{Cause}
-use Rattle.rule_causes.specs.Causes.{errorCause}
+use Rattle.rule_causes.specs.Causes.{applies, errorCause}
 use Rattle.packet_form.specs.Packet.{codeOf, identifierOf}
-use Rattle.rule_verdict.specs.Verdict.{applies}
 use Rattle.das_reply_parts.specs.Reply.{asCame, causePart, replyLength, headOf}
 
 -- v is the value that the reader hands back

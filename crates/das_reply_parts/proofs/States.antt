@@ -3,7 +3,7 @@
 use mathlib.Core.Path.{_≡_, refl, sym, ap, _∙_}
 use mathlib.Core.Bool.{Bool, true, false, false≢true}
 use mathlib.Core.List.{List, []}
-use Prim.Native.Nat.{ℕ, _+_, _-_, _≤_}
+use Prim.Native.Nat.{ℕ, _+_, _-_}
 use native.Mathlib.Omega.{arith}
 use borrow.Author.Tests.{eqb-true}
 use lib.Dec.{lit<}
@@ -15,8 +15,8 @@ use Rattle.attr_walk.specs.declared.Step.the-variants.{Found}
 use Rattle.attr_walk.specs.Attributes.{stepAt, attributes, any, found, firstOf, kindIs}
 use Rattle.attr_walk.proofs.Stands.{first-stands}
 use Rattle.attr_walk.proofs.Searches.{first-passes}
-use Rattle.attr_survey.specs.declared.Flags.{Flags}
-use Rattle.attr_survey.specs.Survey.{Surveyed, seenAt, endOf, sizeOf}
+use Rattle.attr_survey.specs.Survey.{Kept, seenAt, endOf, sizeOf}
+use Rattle.attr_lookup.specs.Lookup.{keptStart}
 use Rattle.attr_lookup.proofs.Values.{seen-any}
 use Rattle.das_reply_parts.specs.Reply.{asCame, ifFound, statePart}
 
@@ -26,34 +26,30 @@ pub record First (s : List ℕ) (a : Attribute) : Type 0 where
   pub is : statePart s ≡ asCame s a
 
 state-of : (s : List ℕ) (z : Search) (end size : ℕ) → firstOf (kindIs 24) (attributes s) ≡ z → found z ≡ true → end ≡ endOf z → size ≡ sizeOf z
-    → (size ≤ end) × First s (record { kind = 24; at = end - size; size = size })
+    → First s (record { kind = 24; at = end - size; size = size })
 unfolding statePart
 state-of s (At a) end size q h e g =
     let k : a .kind ≡ 24 = eqb-true (a .kind) 24 (first-passes (kindIs 24) (attributes s) a q) in
     let o : end - size ≡ a .at = omega arith in
     let i : record { kind = 24; at = end - size; size = size } ≡ a = rw (o, g, ← k) in
-    (omega arith, rw i (record { stands = first-stands (kindIs 24) s a q; is = ap (ifFound s) q }))
+    rw i (record { stands = first-stands (kindIs 24) s a q; is = ap (ifFound s) q })
 state-of s Missing end size q h e g = absurd (false≢true h)
 
-module _ (s : List ℕ) (code : ℕ) (f : Flags) (count ends sizes : List ℕ) (surveyed : Surveyed s code f count ends sizes) (r : Bool) (is : r ≡ seenAt count 24) where
+module _ (s count ends sizes : List ℕ) (kept : Kept s count ends sizes) (r : Bool) (is : r ≡ seenAt count 24) where
   seen : any (kindIs 24) (attributes s) ≡ r
-  seen = sym (is ∙ seen-any s code f count ends sizes surveyed 24 (lit< tt) (λ e. omega arith))
+  seen = sym (is ∙ seen-any s count ends sizes kept 24 (lit< tt) (λ e. omega arith))
 
-  -- where it ends, and its length, in the widths that the code has them
-  module _ (h : r ≡ true) (end size : ℕ) (e : end ≡ getD ends 24 0) (g : size ≡ getD sizes 24 0) where
-    both : (size ≤ end) × First s (record { kind = 24; at = end - size; size = getD sizes 24 0 })
-    both =
-        let known = surveyed .types 24 (lit< tt) (λ e. omega arith) in
-        rw g (state-of s (firstOf (kindIs 24) (attributes s)) end (getD sizes 24 0) refl (seen ∙ h) (e ∙ known .end) (known .size))
+  module _ (h : r ≡ true) (at : ℕ) (e : at ≡ keptStart 24 ends sizes) where
+    there : First s (record { kind = 24; at = at; size = getD sizes 24 0 })
+    there =
+        let known = kept .types 24 (lit< tt) (λ e. omega arith) in
+        rw e (state-of s (firstOf (kindIs 24) (attributes s)) (getD ends 24 0) (getD sizes 24 0) refl (seen ∙ h) (known .end) (known .size))
 
-    pub state-sub : size ≤ end
-    state-sub = both .0
+    pub state-stands : stepAt s at ≡ Found (record { kind = 24; at = at; size = getD sizes 24 0 }) (at + getD sizes 24 0)
+    state-stands = there .stands
 
-    pub state-stands : stepAt s (end - size) ≡ Found (record { kind = 24; at = end - size; size = getD sizes 24 0 }) (end - size + getD sizes 24 0)
-    state-stands = both .1 .stands
-
-    pub state-some : statePart s ≡ asCame s (record { kind = 24; at = end - size; size = getD sizes 24 0 })
-    state-some = both .1 .is
+    pub state-some : statePart s ≡ asCame s (record { kind = 24; at = at; size = getD sizes 24 0 })
+    state-some = there .is
 
   pub state-none : r ≡ false → statePart s ≡ []
   unfolding statePart

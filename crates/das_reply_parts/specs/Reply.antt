@@ -11,9 +11,8 @@ use Rattle.attr_walk.specs.declared.Search.{Search}
 use Rattle.attr_walk.specs.declared.Search.the-variants.{At, Missing}
 use Rattle.attr_walk.specs.Attributes.{attributes, any, firstOf, kindIs}
 use Rattle.rule_causes.specs.declared.Cause.{Cause}
-use Rattle.rule_causes.specs.Causes.{errorCause}
+use Rattle.rule_causes.specs.Causes.{applies, errorCause}
 use Rattle.packet_form.specs.Packet.{codeOf, identifierOf, authOf, areaOf}
-use Rattle.rule_verdict.specs.Verdict.{applies}
 use Rattle.packet_write.specs.Packets.{packetLength, packetMac, packetAuth, signedPacket}
 
 -- an attribute of the area s, as it came

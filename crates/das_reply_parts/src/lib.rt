@@ -7,20 +7,14 @@ ghost use lib.ListN.{length};
 ghost use Rattle.octet_numbers.specs.Runs.{write};
 ghost use Rattle.attr_walk.specs.Attributes.{stepAt};
 ghost use Rattle.attr_walk.specs.declared.Step.the-variants.{Found};
-ghost use Rattle.attr_survey.specs.Survey.{Surveyed};
+ghost use Rattle.attr_survey.specs.Survey.{Kept};
 ghost use Rattle.packet_form.specs.Packet.{codeOf};
-ghost use Rattle.rule_verdict.specs.Verdict.{applies};
+ghost use Rattle.rule_causes.specs.Causes.{applies};
 ghost use Rattle.das_reply_parts.specs.Reply.{asCame, statePart, causePart, proxyPart, replyLength, headOf};
 use attr_walk::Attribute;
 use packet_write::put;
 use rule_causes::Cause;
-use rule_verdict::nak::applies;
-
-fn wide(x: u8) -> usize
-    ensures { λ r. ⌜ (r ≡ x) × (r < 256) ⌝ }
-{
-    x as usize
-}
+use rule_causes::applies;
 
 // An attribute of the area s as it came, its value as the reader hands it back.
 fn put_attribute(t: &mut [u8], to: usize, s: &[u8], a: Attribute) -> usize
@@ -36,20 +30,18 @@ fn put_state(
     t: &mut [u8],
     to: usize,
     s: &[u8],
-    code: u8,
-    f: attr_survey::Flags,
     count: &[u8; 256],
     ends: &[u16; 256],
     sizes: &[u8; 256],
 ) -> usize
-    requires { ⌜ Surveyed (now s) code f (now count) (now ends) (now sizes) ⌝ }
+    requires { ⌜ Kept (now s) (now count) (now ends) (now sizes) ⌝ }
     requires { ⌜ to + length (statePart (now s)) ≤ length (now t) ⌝ }
     ensures { λ r. ⌜ now (t .exit) ≡ write (now (t .entry)) to (statePart (now (s .entry))) ⌝ }
     ensures { λ r. ⌜ r ≡ to + length (statePart (now (s .entry))) ⌝ }
 {
     if attr_lookup::has(count, 24) {
         let size = sizes[24];
-        let at = attr_lookup::end_of(ends, 24) - wide(size);
+        let at = attr_lookup::start_of(ends, sizes, 24);
         let a = Attribute { kind: 24, at, size };
         return put_attribute(t, to, s, a);
     }
@@ -100,19 +92,17 @@ fn put_proxies(t: &mut [u8], from: usize, s: &[u8]) -> usize
 pub fn put_body(
     t: &mut [u8],
     s: &[u8],
-    code: u8,
     cause: Cause,
-    f: attr_survey::Flags,
     count: &[u8; 256],
     ends: &[u16; 256],
     sizes: &[u8; 256],
 ) -> usize
-    requires { ⌜ Surveyed (now s) code f (now count) (now ends) (now sizes) ⌝ }
+    requires { ⌜ Kept (now s) (now count) (now ends) (now sizes) ⌝ }
     requires { ⌜ 20 + length (statePart (now s) ++ causePart cause ++ proxyPart (now s)) ≤ length (now t) ⌝ }
     ensures { λ r. ⌜ now (t .exit) ≡ write (now (t .entry)) 20 (statePart (now (s .entry)) ++ causePart cause ++ proxyPart (now (s .entry))) ⌝ }
     ensures { λ r. ⌜ r ≡ 20 + length (statePart (now (s .entry)) ++ causePart cause ++ proxyPart (now (s .entry))) ⌝ }
 {
-    let state = put_state(&mut *t, 20, s, code, f, count, ends, sizes);
+    let state = put_state(&mut *t, 20, s, count, ends, sizes);
     let to = put_cause(&mut *t, state, cause);
     put_proxies(t, to, s)
 }

@@ -16,11 +16,10 @@ use Rattle.attr_walk.specs.declared.Search.the-variants.{At, Missing}
 use Rattle.attr_walk.specs.Attributes.{attributes, valueOf, found, firstOf, onFirst, countOf, kindIs}
 use Rattle.attr_walk.proofs.Searches.{only, none-any, some-any}
 use Rattle.attr_walk.proofs.Stands.{first-placed}
-use Rattle.packet_form.specs.Packet.{codeOf, lengthOf, areaOf}
+use Rattle.packet_form.specs.Packet.{lengthOf, areaOf}
 use Rattle.packet_form.specs.Discards.{Sized}
 use Rattle.packet_auth.specs.Signing.{zeros, messageAuthenticator}
-use Rattle.attr_survey.specs.declared.Flags.{Flags}
-use Rattle.attr_survey.specs.Survey.{Surveyed, Counted, upToTwo, endOf, sizeOf}
+use Rattle.attr_survey.specs.Survey.{Kept, Counted, upToTwo, endOf, sizeOf}
 use Rattle.packet_mac.specs.Discards.{wrongMac, badMac}
 
 -- a count up to two
@@ -48,12 +47,12 @@ on-found : (P : Search → Type 0) (z x : Search) → z ≡ x → found z ≡ tr
 on-found P z (At a) e h f = f a e
 on-found P z Missing e h f = absurd (false≢true (sym (ap found e) ∙ h))
 
-module _ (auth secret p : List ℕ) (f : Flags) (count ends sizes : List ℕ) (surveyed : Surveyed (areaOf p) (codeOf p) f count ends sizes) where
+module _ (auth secret p : List ℕ) (count ends sizes : List ℕ) (kept : Kept (areaOf p) count ends sizes) where
   first : Search
   first = firstOf (kindIs 80) (attributes (areaOf p))
 
   known : Counted (attributes (areaOf p)) 80 count ends sizes
-  known = surveyed .types 80 (lit< tt) (λ e. omega arith)
+  known = kept .types 80 (lit< tt) (λ e. omega arith)
 
   once : countOf (kindIs 80) (attributes (areaOf p)) ≤ 1 → badMac auth secret p ≡ onFirst (wrongMac auth secret p) first
   unfolding badMac first

@@ -1,14 +1,13 @@
 // The Message-Authenticator of a packet; D5 is that of a request. p is the packet, n its Length, bytes behind Length are not looked at.
 ghost use mathlib.Core.Path.{_≡_};
-ghost use Prim.Native.Nat.{_+_, _<_, _≤_};
+ghost use Prim.Native.Nat.{_+_, _≤_};
 ghost use lib.ListN.{length};
 ghost use Rattle.octet_numbers.specs.Runs.{part, equalBytes};
-ghost use Rattle.packet_form.specs.Packet.{codeOf, areaOf};
+ghost use Rattle.packet_form.specs.Packet.{areaOf};
 ghost use Rattle.packet_form.specs.Discards.{Sized};
 ghost use Rattle.packet_auth.specs.Signing.{zeros, messageAuthenticator};
-ghost use Rattle.attr_survey.specs.Survey.{Surveyed};
+ghost use Rattle.attr_survey.specs.Survey.{Kept};
 ghost use Rattle.packet_mac.specs.Discards.{badMac};
-use attr_survey::Flags;
 
 // The Message-Authenticator whose value stands at place at: auth is zeros for a request, the request's authenticator for a reply.
 pub fn message_authenticator(p: &[u8], n: usize, auth: &[u8], at: usize, secret: &[u8]) -> [u8; 16]
@@ -34,25 +33,18 @@ pub fn mac_right(p: &[u8], n: usize, auth: &[u8], at: usize, secret: &[u8]) -> b
     octet_runs::equal16(p, at, &d, 0)
 }
 
-fn wide(x: u16) -> usize
-    ensures { λ r. ⌜ (r ≡ x) × (r < 65536) ⌝ }
-{
-    x as usize
-}
-
 // Type 80 more than once, not of length 18, or wrong, with auth in the authenticator's place.
 pub fn bad_mac(
     p: &[u8],
     n: usize,
     auth: &[u8],
     secret: &[u8],
-    f: Flags,
     count: &[u8; 256],
     ends: &[u16; 256],
     sizes: &[u8; 256],
 ) -> bool
     requires { ⌜ Sized (now p) n × (length (now auth) ≡ 16) ⌝ }
-    requires { ⌜ Surveyed (areaOf (now p)) (codeOf (now p)) f (now count) (now ends) (now sizes) ⌝ }
+    requires { ⌜ Kept (areaOf (now p)) (now count) (now ends) (now sizes) ⌝ }
     ensures { λ r. ⌜ r ≡ badMac (now (auth .entry)) (now (secret .entry)) (now (p .entry)) ⌝ }
 {
     let number = count[80];
@@ -65,7 +57,7 @@ pub fn bad_mac(
     if sizes[80] != 18 {
         return true;
     }
-    let end = wide(ends[80]);
+    let end = octet_numbers::wide16(ends[80]);
     !mac_right(p, n, auth, end + 4, secret)
 }
 
@@ -74,15 +66,14 @@ pub fn bad_request_mac(
     p: &[u8],
     n: usize,
     secret: &[u8],
-    f: Flags,
     count: &[u8; 256],
     ends: &[u16; 256],
     sizes: &[u8; 256],
 ) -> bool
     requires { ⌜ Sized (now p) n ⌝ }
-    requires { ⌜ Surveyed (areaOf (now p)) (codeOf (now p)) f (now count) (now ends) (now sizes) ⌝ }
+    requires { ⌜ Kept (areaOf (now p)) (now count) (now ends) (now sizes) ⌝ }
     ensures { λ r. ⌜ r ≡ badMac zeros (now (secret .entry)) (now (p .entry)) ⌝ }
 {
     let zeros = [0u8; 16];
-    bad_mac(p, n, &zeros, secret, f, count, ends, sizes)
+    bad_mac(p, n, &zeros, secret, count, ends, sizes)
 }

@@ -12,8 +12,8 @@ use Rattle.octet_numbers.specs.Runs.{equalBytes, write}
 use Rattle.octet_numbers.proofs.Numbers.{length-beBytes}
 use Rattle.octet_numbers.proofs.Write.{write-whole}
 use Rattle.attr_survey.specs.declared.Flags.{Flags}
-use Rattle.attr_survey.specs.Survey.{Surveyed, seenAt}
-use Rattle.attr_survey.specs.Turns.{keptValue}
+use Rattle.attr_survey.specs.Survey.{Flagged, Kept, seenAt}
+use Rattle.attr_lookup.specs.Lookup.{keptValue}
 use Rattle.rule_causes.specs.declared.Cause as D
 use Rattle.rule_causes.specs.declared.Cause.the-variants as C
 use Rattle.rule_causes.specs.Causes.{invalid, causeOf}
@@ -27,7 +27,7 @@ module _ (s count ends sizes own : List ℕ) (k : ℕ) (a : Bool) (p : a ≡ see
   unfolding differsAt
   differs-none h = rw (sym p ∙ h)
 
-  pub differs-there : a ≡ true → (v : List ℕ) → v ≡ keptValue s (getD ends k 0) (getD sizes k 0) → (e : Bool) → e ≡ equalBytes v own → not e ≡ differsAt s count ends sizes k own
+  pub differs-there : a ≡ true → (v : List ℕ) → v ≡ keptValue s k ends sizes → (e : Bool) → e ≡ equalBytes v own → not e ≡ differsAt s count ends sizes k own
   unfolding differsAt
   differs-there h v q e t = rw (sym p ∙ h) (ap not t ∙ rw q)
 
@@ -53,31 +53,31 @@ module _ (code : ℕ) (f : Flags) where
 
 -- ---- the cascade
 
-module _ (s : List ℕ) (code address : ℕ) (name : List ℕ) (f : Flags) (count ends sizes : List ℕ) (i : Surveyed s code f count ends sizes) where
-  tests : f .repeated ≡ false
-      → cond (differsAt s count ends sizes 4 (beBytes 4 address) || differsAt s count ends sizes 32 name) C.IdentificationMismatch
-      (cond (missingBy code f) C.MissingAttribute (cond (ltb 34 (getD sizes 11 0)) C.ResourcesUnavailable C.NoCause)) ≡ laterOf code address name s
-  unfolding laterOf
-  tests n = rw (differ s code f count ends sizes i n address name, missing-flags s code f count ends sizes i, long-any s code f count ends sizes i n)
+module _ (s : List ℕ) (code address : ℕ) (name : List ℕ) (f : Flags) (i : Flagged s code f) where
+  module _ (count ends sizes : List ℕ) (kept : Kept s count ends sizes) (n : f .repeated ≡ false) where
+    tests : cond (differsAt s count ends sizes 4 (beBytes 4 address) || differsAt s count ends sizes 32 name) C.IdentificationMismatch
+        (cond (missingBy code f) C.MissingAttribute (cond (ltb 34 (getD sizes 11 0)) C.ResourcesUnavailable C.NoCause)) ≡ laterOf code address name s
+    unfolding laterOf
+    tests = rw (differ s code f i count ends sizes kept n address name, missing-flags s code f i, long-any s code f i count ends sizes kept n)
 
-  module _ (n : f .repeated ≡ false) (d : Bool) (pd : d ≡ differsAt s count ends sizes 4 (beBytes 4 address)) where
-    pub later-address : d ≡ true → C.IdentificationMismatch ≡ laterOf code address name s
-    later-address h = rw (sym pd ∙ h) at (tests n)
+    module _ (d : Bool) (pd : d ≡ differsAt s count ends sizes 4 (beBytes 4 address)) where
+      pub later-address : d ≡ true → C.IdentificationMismatch ≡ laterOf code address name s
+      later-address h = rw (sym pd ∙ h) at tests
 
-    module _ (nd : d ≡ false) (e : Bool) (pe : e ≡ differsAt s count ends sizes 32 name) where
-      pub later-name : e ≡ true → C.IdentificationMismatch ≡ laterOf code address name s
-      later-name h = rw (sym pd ∙ nd, sym pe ∙ h) at (tests n)
+      module _ (nd : d ≡ false) (e : Bool) (pe : e ≡ differsAt s count ends sizes 32 name) where
+        pub later-name : e ≡ true → C.IdentificationMismatch ≡ laterOf code address name s
+        later-name h = rw (sym pd ∙ nd, sym pe ∙ h) at tests
 
-      module _ (ne : e ≡ false) (c : Bool) (pc : c ≡ missingBy code f) where
-        pub later-402 : c ≡ true → C.MissingAttribute ≡ laterOf code address name s
-        later-402 h = rw (sym pd ∙ nd, sym pe ∙ ne, sym pc ∙ h) at (tests n)
+        module _ (ne : e ≡ false) (c : Bool) (pc : c ≡ missingBy code f) where
+          pub later-402 : c ≡ true → C.MissingAttribute ≡ laterOf code address name s
+          later-402 h = rw (sym pd ∙ nd, sym pe ∙ ne, sym pc ∙ h) at tests
 
-        module _ (nc : c ≡ false) where
-          pub later-506 : 34 < getD sizes 11 0 → C.ResourcesUnavailable ≡ laterOf code address name s
-          later-506 h = rw (sym pd ∙ nd, sym pe ∙ ne, sym pc ∙ nc, lt-ltb _ _ h) at (tests n)
+          module _ (nc : c ≡ false) where
+            pub later-506 : 34 < getD sizes 11 0 → C.ResourcesUnavailable ≡ laterOf code address name s
+            later-506 h = rw (sym pd ∙ nd, sym pe ∙ ne, sym pc ∙ nc, lt-ltb _ _ h) at tests
 
-          pub later-none : getD sizes 11 0 ≤ 34 → C.NoCause ≡ laterOf code address name s
-          later-none h = rw (sym pd ∙ nd, sym pe ∙ ne, sym pc ∙ nc, le-ltb _ _ h) at (tests n)
+            pub later-none : getD sizes 11 0 ≤ 34 → C.NoCause ≡ laterOf code address name s
+            later-none h = rw (sym pd ∙ nd, sym pe ∙ ne, sym pc ∙ nc, le-ltb _ _ h) at tests
 
   whole : cond (f .unsupported) C.UnsupportedAttribute (cond (f .service) C.UnsupportedService (cond (f .repeated || f .misfit) C.InvalidRequest (laterOf code address name s)))
       ≡ causeOf code address name s

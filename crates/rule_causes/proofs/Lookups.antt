@@ -14,35 +14,36 @@ use Rattle.attr_walk.specs.declared.Search.the-variants.{At, Missing}
 use Rattle.attr_walk.specs.Attributes.{attributes, valueOf, any, found, firstOf, countOf, kindIs, onFirst}
 use Rattle.attr_walk.proofs.Searches.{any-or, only}
 use Rattle.attr_survey.specs.declared.Flags.{Flags}
-use Rattle.attr_survey.specs.Survey.{Surveyed, endOf, sizeOf}
-use Rattle.attr_survey.specs.Turns.{keptValue}
-use Rattle.attr_survey.proofs.Repeats.{at-most-once}
+use Rattle.attr_survey.specs.Survey.{Flagged, Kept, endOf, sizeOf}
+use Rattle.attr_lookup.specs.Lookup.{keptValue}
+use Rattle.attr_types.proofs.Repeats.{at-most-once}
 use Rattle.attr_lookup.proofs.Values.{kept-attribute, seen-any}
 use Rattle.rule_causes.specs.Causes.{differing, mismatched, missing, oversized}
 use Rattle.rule_causes.specs.Later.{differsAt, missingBy}
 
-at-differs : (s own : List ℕ) (x : Search) → (found x && not (equalBytes (keptValue s (endOf x) (sizeOf x)) own)) ≡ onFirst (λ a. not (equalBytes (valueOf s a) own)) x
-at-differs s own (At a) = ap (λ (v : List ℕ). not (equalBytes v own)) (kept-attribute s a)
-at-differs s own Missing = refl
+at-differs : (s own : List ℕ) (k : ℕ) (ends sizes : List ℕ) (x : Search) → getD ends k 0 ≡ endOf x → getD sizes k 0 ≡ sizeOf x
+    → (found x && not (equalBytes (keptValue s k ends sizes) own)) ≡ onFirst (λ a. not (equalBytes (valueOf s a) own)) x
+at-differs s own k ends sizes (At a) p q = ap (λ (v : List ℕ). not (equalBytes v own)) (kept-attribute s a k ends sizes p q)
+at-differs s own k ends sizes Missing p q = refl
 
 at-long : (x : Search) → ltb 34 (sizeOf x) ≡ onFirst (λ a. ltb 34 (a .size)) x
 at-long (At a) = refl
 at-long Missing = refl
 
-module _ (s : List ℕ) (code : ℕ) (f : Flags) (count ends sizes : List ℕ) (i : Surveyed s code f count ends sizes) where
+module _ (s : List ℕ) (code : ℕ) (f : Flags) (i : Flagged s code f) where
   pub missing-flags : missingBy code f ≡ missing code s
   unfolding missingBy missing
   missing-flags = rw (i .criterion, i .change)
 
-  module _ (nr : f .repeated ≡ false) where
+  module _ (count ends sizes : List ℕ) (kept : Kept s count ends sizes) (nr : f .repeated ≡ false) where
     low : (k : ℕ) → (k ≡ 33 → ⊥) → countOf (kindIs k) (attributes s) ≤ 1
     low k ne = at-most-once (attributes s) (sym (i .repeated) ∙ nr) k ne
 
     differs-any : (k : ℕ) (own : List ℕ) → k < 256 → (k ≡ 33 → ⊥) → differsAt s count ends sizes k own ≡ any (differing s k own) (attributes s)
     unfolding differsAt
     differs-any k own h ne =
-        rw (seen-any s code f count ends sizes i k h ne, i .types k h ne .end, i .types k h ne .size)
-        (at-differs s own (firstOf (kindIs k) (attributes s))
+        rw (seen-any s count ends sizes kept k h ne)
+        (at-differs s own k ends sizes (firstOf (kindIs k) (attributes s)) (kept .types k h ne .end) (kept .types k h ne .size)
         ∙ sym (only (kindIs k) (λ a. not (equalBytes (valueOf s a) own)) (attributes s) (low k ne)))
 
     pub differ : (address : ℕ) (name : List ℕ) → (differsAt s count ends sizes 4 (beBytes 4 address) || differsAt s count ends sizes 32 name) ≡ any (mismatched address name s) (attributes s)
@@ -53,5 +54,5 @@ module _ (s : List ℕ) (code : ℕ) (f : Flags) (count ends sizes : List ℕ) (
     pub long-any : ltb 34 (getD sizes 11 0) ≡ any oversized (attributes s)
     long-any =
         let ne : _≡_ {A = ℕ} 11 33 → ⊥ = λ e. omega arith in
-        ap (ltb 34) (i .types 11 (lit< tt) ne .size) ∙ at-long (firstOf (kindIs 11) (attributes s))
+        ap (ltb 34) (kept .types 11 (lit< tt) ne .size) ∙ at-long (firstOf (kindIs 11) (attributes s))
         ∙ sym (only (kindIs 11) (λ a. ltb 34 (a .size)) (attributes s) (low 11 ne))

@@ -14,8 +14,9 @@ use Rattle.attr_walk.specs.declared.Search.the-variants.{At}
 use Rattle.attr_walk.specs.Attributes.{attributes, any, found, firstOf, countOf, kindIs}
 use Rattle.attr_walk.proofs.Stands.{first-member}
 use Rattle.attr_walk.proofs.Searches.{first-passes}
-use Rattle.attr_survey.specs.Types.{member, sixTypes, filledTypes, misfitOf, misfitting, firstRepeated, none}
-use Rattle.attr_survey.proofs.Repeats.{at-most-once}
+use Rattle.octet_numbers.specs.Runs.{member}
+use Rattle.attr_types.specs.Types.{sixTypes, filledTypes, misfitOf, misfitting, firstRepeated, none}
+use Rattle.attr_types.proofs.Repeats.{at-most-once}
 use Rattle.rule_causes.specs.declared.Cause.the-variants as C
 use Rattle.rule_causes.specs.Causes.{oversized, invalid, causeOf}
 use Rattle.rule_causes.proofs.Firsts.{exactly}

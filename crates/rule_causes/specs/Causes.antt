@@ -1,6 +1,6 @@
 -- The NAK causes 1 to 6, first that applies (document 01, "NAK causes"). Each is a test of the attributes in their order.
 -- Assumes nothing.
-use mathlib.Core.Bool.{Bool, cond, not, _&&_, _||_}
+use mathlib.Core.Bool.{Bool, true, false, cond, not, _&&_, _||_}
 use mathlib.Core.List.{List}
 use Prim.Native.Nat.{ℕ}
 use lib.Dec.{eqb, ltb}
@@ -8,7 +8,7 @@ use Rattle.octet_numbers.specs.Numbers.{beBytes}
 use Rattle.octet_numbers.specs.Runs.{equalBytes}
 use Rattle.attr_walk.specs.declared.Attribute.{Attribute}
 use Rattle.attr_walk.specs.Attributes.{attributes, valueOf, any, found, kindIs}
-use Rattle.attr_survey.specs.Types.{unsupportedIn, misfitting, among, criteria, changes, firstRepeated, none}
+use Rattle.attr_types.specs.Types.{unsupportedIn, misfitting, among, criteria, changes, firstRepeated, none}
 use Rattle.rule_causes.specs.declared.Cause as D
 use Rattle.rule_causes.specs.declared.Cause.the-variants as C
 
@@ -22,6 +22,17 @@ errorCause C.UnsupportedService = 405
 errorCause C.SessionNotFound = 503
 errorCause C.ResourcesUnavailable = 506
 errorCause C.NoCause = 0
+
+-- a cause applies
+abbrev pub applies : D.Cause → Bool
+applies C.NoCause = false
+applies C.UnsupportedAttribute = true
+applies C.MissingAttribute = true
+applies C.IdentificationMismatch = true
+applies C.InvalidRequest = true
+applies C.UnsupportedService = true
+applies C.SessionNotFound = true
+applies C.ResourcesUnavailable = true
 
 -- 403: type 4 or 32 differs from the gate's own address and NAS-Identifier
 abbrev pub differing : List ℕ → ℕ → List ℕ → Attribute → Bool

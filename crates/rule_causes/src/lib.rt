@@ -1,8 +1,8 @@
 // The NAK causes 1 to 6, first that applies, from what one pass over the attributes tells.
 ghost use mathlib.Core.Path.{_≡_};
 ghost use mathlib.Core.Bool.{false};
-ghost use Rattle.attr_survey.specs.Survey.{Surveyed};
-ghost use Rattle.rule_causes.specs.Causes.{errorCause, causeOf};
+ghost use Rattle.attr_survey.specs.Survey.{Flagged, Kept};
+ghost use Rattle.rule_causes.specs.Causes.{errorCause, applies, causeOf};
 ghost use Rattle.rule_causes.specs.Later.{laterOf};
 use checks::missing;
 use checks::other_address;
@@ -38,7 +38,23 @@ pub fn error_cause(c: Cause) -> u32
     }
 }
 
-// The causes behind 404: no type but 33 is there twice.
+// A cause applies.
+pub fn applies(cause: Cause) -> bool
+    ensures { λ r. ⌜ r ≡ applies cause ⌝ }
+{
+    match cause {
+        Cause::NoCause => false,
+        Cause::UnsupportedAttribute => true,
+        Cause::MissingAttribute => true,
+        Cause::IdentificationMismatch => true,
+        Cause::InvalidRequest => true,
+        Cause::UnsupportedService => true,
+        Cause::SessionNotFound => true,
+        Cause::ResourcesUnavailable => true,
+    }
+}
+
+// The causes after 404: no type but 33 is there twice.
 fn later_cause(
     s: &[u8],
     code: u8,
@@ -49,7 +65,8 @@ fn later_cause(
     ends: &[u16; 256],
     sizes: &[u8; 256],
 ) -> Cause
-    requires { ⌜ Surveyed (now s) code f (now count) (now ends) (now sizes) × (f .repeated ≡ false) ⌝ }
+    requires { ⌜ Flagged (now s) code f × (f .repeated ≡ false) ⌝ }
+    requires { ⌜ Kept (now s) (now count) (now ends) (now sizes) ⌝ }
     ensures { λ r. ⌜ r ≡ laterOf code address (now (name .entry)) (now (s .entry)) ⌝ }
 {
     if other_address(s, count, ends, sizes, address) {
@@ -78,7 +95,7 @@ pub fn first_cause(
     ends: &[u16; 256],
     sizes: &[u8; 256],
 ) -> Cause
-    requires { ⌜ Surveyed (now s) code f (now count) (now ends) (now sizes) ⌝ }
+    requires { ⌜ Flagged (now s) code f × Kept (now s) (now count) (now ends) (now sizes) ⌝ }
     ensures { λ r. ⌜ r ≡ causeOf code address (now (name .entry)) (now (s .entry)) ⌝ }
 {
     if f.unsupported {

@@ -14,8 +14,7 @@ use Rattle.attr_walk.specs.declared.Search.{Search}
 use Rattle.attr_walk.specs.declared.Search.the-variants.{At, Missing}
 use Rattle.attr_walk.specs.Attributes.{attributes, firstOf, countOf, kindIs}
 use Rattle.attr_walk.proofs.Stands.{first-placed}
-use Rattle.attr_survey.specs.declared.Flags.{Flags}
-use Rattle.attr_survey.specs.Survey.{Surveyed, upToTwo, endOf, sizeOf}
+use Rattle.attr_survey.specs.Survey.{Kept, upToTwo, endOf, sizeOf}
 use Rattle.rule_stamp.specs.declared.Stamp.the-variants.{Usable, Unusable}
 use Rattle.rule_stamp.specs.Stamp.{stampIn, stampOf}
 
@@ -44,7 +43,7 @@ one (suc (suc n)) h = absurd (omega arith)
 
 -- ---- the answers of the code
 
-module _ (s : List ℕ) (code : ℕ) (f : Flags) (count ends sizes : List ℕ) (i : Surveyed s code f count ends sizes) where
+module _ (s count ends sizes : List ℕ) (i : Kept s count ends sizes) where
   abbrev stamped : Search
   stamped = firstOf (kindIs 55) (attributes s)
 

@@ -1,6 +1,6 @@
 // D6: the Event-Timestamp of a request, and its distance from the clock.
 ghost use mathlib.Core.Path.{_≡_};
-ghost use Rattle.attr_survey.specs.Survey.{Surveyed};
+ghost use Rattle.attr_survey.specs.Survey.{Kept};
 ghost use Rattle.rule_stamp.specs.Stamp.{stampOf, stale, skewOf};
 
 pub enum Stamp {
@@ -9,15 +9,8 @@ pub enum Stamp {
 }
 
 // The stamp of a surveyed area: usable where type 55 stands once, with length 6.
-pub fn stamp_of(
-    s: &[u8],
-    code: u8,
-    f: attr_survey::Flags,
-    count: &[u8; 256],
-    ends: &[u16; 256],
-    sizes: &[u8; 256],
-) -> Stamp
-    requires { ⌜ Surveyed (now s) code f (now count) (now ends) (now sizes) ⌝ }
+pub fn stamp_of(s: &[u8], count: &[u8; 256], ends: &[u16; 256], sizes: &[u8; 256]) -> Stamp
+    requires { ⌜ Kept (now s) (now count) (now ends) (now sizes) ⌝ }
     ensures { λ r. ⌜ r ≡ stampOf (now (s .entry)) ⌝ }
 {
     if count[55] == 1 {

@@ -8,21 +8,19 @@ use Rattle.octet_numbers.specs.Runs.{part, equalBytes}
 use Rattle.packet_form.specs.Packet.{codeOf, areaOf}
 use Rattle.packet_form.specs.Discards.{formOf, Sized}
 use Rattle.packet_auth.specs.Signing.{zeros, authenticator}
-use Rattle.attr_survey.specs.declared.Flags.{Flags}
-use Rattle.attr_survey.specs.Survey.{Surveyed}
 use lib.IntN.{ℤ}
 use borrow.Author.Tests.{eq-eqb, ne-eqb}
 use Rattle.rule_stamp.specs.declared.Stamp as S
 use Rattle.rule_stamp.specs.declared.Stamp.the-variants.{Usable, Unusable}
 use Rattle.rule_stamp.specs.Stamp.{stampOf, stale, skewOf}
 use Rattle.rule_causes.specs.declared.Cause.{Cause}
-use Rattle.rule_causes.specs.Causes.{causeOf}
+use Rattle.rule_causes.specs.Causes.{applies, causeOf}
 use Rattle.packet_mac.specs.Discards.{badMac}
 use Rattle.nas_settings.specs.Settings.{Settings}
 use Rattle.rule_verdict.specs.declared.Verdict as D
 use Rattle.rule_verdict.specs.declared.Verdict.the-variants.{Discarded, Stale, Nak, Passed}
 use Rattle.rule_verdict.specs.Discards.{signedBy}
-use Rattle.rule_verdict.specs.Verdict.{applies, nakOr, freshVerdict, checkVerdict, verdictOf}
+use Rattle.rule_verdict.specs.Verdict.{nakOr, freshVerdict, checkVerdict, verdictOf}
 
 -- s′ is s as the machine holds it
 module _ (c : Cause) (b : Bool) (s s′ : ℤ) (same : s′ ≡ s) (is : b ≡ applies c) where
@@ -38,12 +36,6 @@ module _ (c : Cause) (b : Bool) (s s′ : ℤ) (same : s′ ≡ s) (is : b ≡ a
 pub signed-law : (secret p : List ℕ) (n : ℕ) (r : Bool) → Sized p n → r ≡ equalBytes (part 4 16 p) (authenticator zeros p n secret) → r ≡ signedBy secret p
 unfolding signedBy
 signed-law secret p n r z e = e ∙ rw (z .is)
-
-pub surveyed-at : (s t : List ℕ) (code : ℕ) (f : Flags) (count ends sizes : List ℕ) → s ≡ t → Surveyed t code f count ends sizes → Surveyed s code f count ends sizes
-surveyed-at s t code f count ends sizes e h = rw e h
-
-pub surveyed-of : (s t : List ℕ) (code : ℕ) (f : Flags) (count ends sizes : List ℕ) → s ≡ t → Surveyed s code f count ends sizes → Surveyed t code f count ends sizes
-surveyed-of s t code f count ends sizes e h = rw e at h
 
 pub fresh-law : (address : ℕ) (name s p : List ℕ) (k skew : ℤ) (c : Cause) (r : D.Verdict) → s ≡ areaOf p → c ≡ causeOf (codeOf p) address name s → r ≡ nakOr k c → k ≡ skew
     → r ≡ freshVerdict address name p skew
@@ -76,7 +68,7 @@ module _ (g : Settings) (p : List ℕ) (clock : ℕ) where
         unfolding checkVerdict
         check-fresh h k k′ i l r j = rw (yes-signed, ← is, right, ← area, ← stamp, usable, ← lateness, h, ← i, ← l) j
 
-  -- D1 to D3, and behind them the rest; d is their number
+  -- D1 to D3, and after them the rest; d is their number
   module _ (d : ℕ) (is : d ≡ formOf p) where
     pub judge-form : (d ≡ 0 → ⊥) → (signed : Bool) → Discarded d ≡ verdictOf g signed p clock
     unfolding verdictOf

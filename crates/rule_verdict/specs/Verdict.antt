@@ -1,6 +1,6 @@
 -- The verdict on a request before any session is looked at: discarded, NAK, or passed (document 01: D1 to D6, then causes 1 to 6).
 -- Assumes nothing.
-use mathlib.Core.Bool.{Bool, true, false, cond}
+use mathlib.Core.Bool.{Bool, cond}
 use mathlib.Core.List.{List}
 use Prim.Native.Nat.{ℕ}
 use lib.Dec.{eqb}
@@ -11,26 +11,14 @@ use Rattle.rule_stamp.specs.declared.Stamp as S
 use Rattle.rule_stamp.specs.declared.Stamp.the-variants.{Usable, Unusable}
 use Rattle.rule_stamp.specs.Stamp.{stampOf, stale, skewOf}
 use Rattle.rule_causes.specs.declared.Cause as C
-use Rattle.rule_causes.specs.declared.Cause.the-variants as K
-use Rattle.rule_causes.specs.Causes.{causeOf}
+use Rattle.rule_causes.specs.Causes.{applies, causeOf}
 use Rattle.packet_auth.specs.Signing.{zeros}
 use Rattle.packet_mac.specs.Discards.{badMac}
 use Rattle.nas_settings.specs.Settings.{Settings}
 use Rattle.rule_verdict.specs.declared.Verdict as D
 use Rattle.rule_verdict.specs.declared.Verdict.the-variants.{Discarded, Stale, Nak, Passed}
 
--- a cause applies
-abbrev pub applies : C.Cause → Bool
-applies K.NoCause = false
-applies K.UnsupportedAttribute = true
-applies K.MissingAttribute = true
-applies K.IdentificationMismatch = true
-applies K.InvalidRequest = true
-applies K.UnsupportedService = true
-applies K.SessionNotFound = true
-applies K.ResourcesUnavailable = true
-
--- it is a NAK; where none applies the request passed
+-- a NAK where a cause applies, else the request passed
 unfoldable pub nakOr : ℤ → C.Cause → D.Verdict
 nakOr skew c = cond (applies c) (Nak c skew) (Passed skew)
 

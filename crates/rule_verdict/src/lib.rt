@@ -4,7 +4,7 @@ pub mod nak; // nak.rt: causes 1 to 6
 ghost use mathlib.Core.Path.{_≡_};
 ghost use Rattle.packet_form.specs.Packet.{codeOf, areaOf};
 ghost use Rattle.packet_form.specs.Discards.{Sized};
-ghost use Rattle.attr_survey.specs.Survey.{Surveyed};
+ghost use Rattle.attr_survey.specs.Survey.{Flagged, Kept};
 ghost use Rattle.nas_settings.specs.Settings.{settings};
 ghost use Rattle.rule_verdict.specs.Verdict.{checkVerdict};
 
@@ -31,15 +31,15 @@ pub fn check(
     sizes: &[u8; 256],
 ) -> Verdict
     requires { ⌜ Sized (now p) n ⌝ }
-    requires { ⌜ Surveyed (areaOf (now p)) (codeOf (now p)) f (now count) (now ends) (now sizes) ⌝ }
+    requires { ⌜ Flagged (areaOf (now p)) (codeOf (now p)) f × Kept (areaOf (now p)) (now count) (now ends) (now sizes) ⌝ }
     ensures { λ r. ⌜ r ≡ checkVerdict (settings (now (secret .entry)) address (now (name .entry))) «signed» (now (p .entry)) clock ⌝ }
 {
     if signed {
-        if packet_mac::bad_request_mac(p, n, secret, f, count, ends, sizes) {
+        if packet_mac::bad_request_mac(p, n, secret, count, ends, sizes) {
             return Verdict::Discarded(5);
         }
         let s = octet_runs::slice(p, 20, n - 20);
-        match rule_stamp::stamp_of(s, p[0], f, count, ends, sizes) {
+        match rule_stamp::stamp_of(s, count, ends, sizes) {
             rule_stamp::Stamp::Unusable => {
                 return Verdict::Discarded(6);
             }

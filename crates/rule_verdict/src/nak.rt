@@ -3,30 +3,14 @@ ghost use mathlib.Core.Path.{_≡_};
 ghost use Prim.Native.Nat.{_<_};
 ghost use lib.ListN.{length};
 ghost use Rattle.packet_form.specs.Packet.{codeOf, areaOf};
-ghost use Rattle.attr_survey.specs.Survey.{Surveyed};
-ghost use Rattle.rule_verdict.specs.Verdict.{applies, nakOr, freshVerdict};
+ghost use Rattle.attr_survey.specs.Survey.{Flagged, Kept};
+ghost use Rattle.rule_verdict.specs.Verdict.{nakOr, freshVerdict};
 
-// A cause applies.
-pub fn applies(cause: rule_causes::Cause) -> bool
-    ensures { λ r. ⌜ r ≡ applies cause ⌝ }
-{
-    match cause {
-        rule_causes::Cause::NoCause => false,
-        rule_causes::Cause::UnsupportedAttribute => true,
-        rule_causes::Cause::MissingAttribute => true,
-        rule_causes::Cause::IdentificationMismatch => true,
-        rule_causes::Cause::InvalidRequest => true,
-        rule_causes::Cause::UnsupportedService => true,
-        rule_causes::Cause::SessionNotFound => true,
-        rule_causes::Cause::ResourcesUnavailable => true,
-    }
-}
-
-// Then it is a NAK.
+// A NAK where a cause applies, else the request passed.
 fn nak_or(cause: rule_causes::Cause, skew: i64) -> super::Verdict
     ensures { λ r. ⌜ r ≡ nakOr skew cause ⌝ }
 {
-    if applies(cause) {
+    if rule_causes::applies(cause) {
         return super::Verdict::Nak(cause, skew);
     }
     super::Verdict::Passed(skew)
@@ -45,7 +29,7 @@ pub fn fresh(
     sizes: &[u8; 256],
 ) -> super::Verdict
     requires { ⌜ (0 < length (now p)) × (now s ≡ areaOf (now p)) ⌝ }
-    requires { ⌜ Surveyed (areaOf (now p)) (codeOf (now p)) f (now count) (now ends) (now sizes) ⌝ }
+    requires { ⌜ Flagged (areaOf (now p)) (codeOf (now p)) f × Kept (areaOf (now p)) (now count) (now ends) (now sizes) ⌝ }
     ensures { λ r. ⌜ r ≡ freshVerdict address (now (name .entry)) (now (p .entry)) skew ⌝ }
 {
     let cause = rule_causes::first_cause(s, p[0], address, name, f, count, ends, sizes);

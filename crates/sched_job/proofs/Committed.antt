@@ -13,9 +13,9 @@ use Rattle.attr_walk.specs.declared.Search.the-variants.{At, Missing}
 use Rattle.attr_walk.specs.Attributes.{attributes, any, found, firstOf, onFirst, kindIs}
 use Rattle.attr_walk.proofs.Searches.{only}
 use Rattle.attr_survey.specs.declared.Flags.{Flags}
-use Rattle.attr_survey.specs.Types.{misfitting, firstRepeated, none}
+use Rattle.attr_types.specs.Types.{misfitting, firstRepeated, none}
 use Rattle.attr_survey.specs.Survey.{Surveyed, sizeOf}
-use Rattle.attr_survey.proofs.Repeats.{at-most-once}
+use Rattle.attr_types.proofs.Repeats.{at-most-once}
 use Rattle.rule_stamp.specs.Stamp.{skewOf}
 use Rattle.rule_causes.specs.declared.Cause.{Cause}
 use Rattle.packet_form.specs.Packet.{codeOf, areaOf}

@@ -8,7 +8,7 @@ use native.Mathlib.Omega.{arith}
 use lib.ListN.{set}
 use Rattle.attr_walk.specs.Attributes.{attributes, found}
 use Rattle.attr_survey.specs.declared.Flags.{Flags}
-use Rattle.attr_survey.specs.Types.{firstRepeated, none}
+use Rattle.attr_types.specs.Types.{firstRepeated, none}
 use Rattle.attr_survey.specs.Survey.{Surveyed}
 use Rattle.table_criteria.specs.declared.Criterion.{Criterion}
 use Rattle.table_slots.specs.Slot.{slot, slotCount}

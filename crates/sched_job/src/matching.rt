@@ -5,7 +5,7 @@ ghost use Prim.Native.Nat.{_<_};
 ghost use Rattle.table_slots.specs.Slot.{slotCount};
 ghost use Rattle.attr_walk.specs.Attributes.{attributes, found};
 ghost use Rattle.attr_survey.specs.Survey.{Surveyed};
-ghost use Rattle.attr_survey.specs.Types.{firstRepeated, none};
+ghost use Rattle.attr_types.specs.Types.{firstRepeated, none};
 ghost use Rattle.packet_form.specs.Packet.{codeOf, areaOf};
 ghost use Rattle.packet_form.specs.Discards.{Sized};
 ghost use Rattle.das_effects.specs.Matching.{matchesIn};

@@ -17,10 +17,9 @@ use Rattle.attr_survey.specs.Survey.{Surveyed, seenAt, sizeOf}
 use Rattle.attr_lookup.proofs.Values.{seen-any}
 use Rattle.rule_causes.specs.declared.Cause as C
 use Rattle.rule_causes.specs.declared.Cause.the-variants as K
-use Rattle.rule_causes.specs.Causes.{causeOf}
+use Rattle.rule_causes.specs.Causes.{applies, causeOf}
 use Rattle.rule_causes.proofs.Passed.{once}
 use Rattle.packet_form.specs.Discards.{formOf, Sized}
-use Rattle.rule_verdict.specs.Verdict.{applies}
 use Rattle.sched_reread.specs.Reread.{holds, oddMac}
 
 -- ---- D1 to D3 and Length

@@ -16,12 +16,11 @@ use Rattle.rule_stamp.specs.declared.Stamp.{Stamp}
 use Rattle.rule_stamp.specs.declared.Stamp.the-variants.{Usable, Unusable}
 use Rattle.rule_stamp.specs.Stamp.{stampOf}
 use Rattle.rule_causes.specs.declared.Cause.the-variants.{NoCause}
-use Rattle.rule_causes.specs.Causes.{causeOf}
+use Rattle.rule_causes.specs.Causes.{applies, causeOf}
 use Rattle.rule_causes.proofs.Passed.{repeated, misfit}
 use Rattle.packet_form.specs.Packet.{codeOf, lengthOf, areaOf}
 use Rattle.nas_settings.specs.Settings.{settings}
 use Rattle.packet_form.specs.Discards.{formOf, Sized}
-use Rattle.rule_verdict.specs.Verdict.{applies}
 use Rattle.packet_form.proofs.Forms.{good-sized, form-good}
 use Rattle.sched_reread.specs.Reread.{holds, oddMac, holdsPassed}
 use Rattle.sched_reread.specs.declared.Again.the-variants.{Gone, Held}

@@ -7,7 +7,7 @@ use mathlib.Core.List.{List}
 use Prim.Native.Nat.{ℕ}
 use Rattle.attr_walk.specs.Attributes.{attributes, any, found}
 use Rattle.attr_survey.specs.declared.Flags.{Flags}
-use Rattle.attr_survey.specs.Types.{misfitting, firstRepeated, none}
+use Rattle.attr_types.specs.Types.{misfitting, firstRepeated, none}
 use Rattle.attr_survey.specs.Survey.{Surveyed}
 use Rattle.rule_stamp.specs.declared.Stamp.the-variants.{Usable}
 use Rattle.rule_stamp.specs.Stamp.{stampOf}

@@ -10,11 +10,10 @@ use Rattle.attr_walk.specs.Attributes.{attributes, any, kindIs}
 use Rattle.rule_stamp.specs.declared.Stamp as T
 use Rattle.rule_stamp.specs.declared.Stamp.the-variants.{Usable, Unusable}
 use Rattle.rule_stamp.specs.Stamp.{stampOf}
-use Rattle.rule_causes.specs.Causes.{causeOf}
+use Rattle.rule_causes.specs.Causes.{applies, causeOf}
 use Rattle.packet_form.specs.Packet.{codeOf, lengthOf, areaOf}
 use Rattle.nas_settings.specs.Settings.{Settings}
 use Rattle.packet_form.specs.Discards.{formOf}
-use Rattle.rule_verdict.specs.Verdict.{applies}
 
 -- none of D1 to D3 applies, and Length is the kept one
 unfoldable pub holds : ℕ → List ℕ → Bool

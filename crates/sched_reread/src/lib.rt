@@ -5,8 +5,7 @@ ghost use lib.Dec.{eqb};
 ghost use lib.ListN.{getD};
 ghost use Rattle.attr_walk.specs.Attributes.{attributes, any};
 ghost use Rattle.attr_survey.specs.Survey.{Surveyed, seenAt, zeros};
-ghost use Rattle.rule_causes.specs.Causes.{causeOf};
-ghost use Rattle.rule_verdict.specs.Verdict.{applies};
+ghost use Rattle.rule_causes.specs.Causes.{applies, causeOf};
 ghost use Rattle.packet_form.specs.Packet.{codeOf, areaOf};
 ghost use Rattle.packet_form.specs.Discards.{formOf, Sized};
 ghost use Rattle.sched_reread.specs.Reread.{holds, oddMac};
@@ -53,7 +52,7 @@ fn unobjected(
     ensures { λ r. ⌜ r ≡ not (any oddMac (attributes (now (s .entry)))) && not (applies (causeOf code address (now (name .entry)) (now (s .entry)))) ⌝ }
 {
     let cause = rule_causes::first_cause(s, code, address, name, f, count, ends, sizes);
-    if rule_verdict::nak::applies(cause) {
+    if rule_causes::applies(cause) {
         return false;
     }
     plain_mac(count, sizes)

@@ -14,17 +14,16 @@ use Rattle.attr_walk.specs.declared.Search.the-variants.{At, Missing}
 use Rattle.attr_walk.specs.Attributes.{attributes, any, found, firstOf, onFirst, kindIs}
 use Rattle.attr_walk.proofs.Searches.{only}
 use Rattle.attr_survey.specs.Survey.{sizeOf}
-use Rattle.attr_survey.proofs.Repeats.{at-most-once}
+use Rattle.attr_types.proofs.Repeats.{at-most-once}
 use Rattle.rule_stamp.specs.declared.Stamp as T
 use Rattle.rule_stamp.specs.declared.Stamp.the-variants.{Usable, Unusable}
 use Rattle.rule_stamp.specs.Stamp.{stampOf}
 use Rattle.rule_causes.specs.declared.Cause as C
 use Rattle.rule_causes.specs.declared.Cause.the-variants.{NoCause}
-use Rattle.rule_causes.specs.Causes.{causeOf}
+use Rattle.rule_causes.specs.Causes.{applies, causeOf}
 use Rattle.packet_form.specs.Packet.{codeOf, lengthOf, areaOf}
 use Rattle.packet_form.specs.Discards.{formOf}
 use Rattle.packet_form.proofs.Forms.{good-sized, form-good}
-use Rattle.rule_verdict.specs.Verdict.{applies}
 use Rattle.das_reply_parts.specs.Reply.{replyLength}
 use Rattle.das_reply.proofs.Fitting.{reply-short}
 use Rattle.das_reply.proofs.Judged.{stamp-six}

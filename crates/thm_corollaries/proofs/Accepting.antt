@@ -5,13 +5,13 @@ use mathlib.Core.Bool.{Bool, true, false, cond, false≢true}
 use mathlib.Core.List.{List, [], _∷_}
 use Prim.Native.Nat.{ℕ}
 use lib.IntN.{ℤ}
-use Rattle.attr_survey.specs.Types.{member}
+use Rattle.octet_numbers.specs.Runs.{member}
 use Rattle.packet_auth.specs.Signing.{zeros}
 use Rattle.rule_stamp.specs.declared.Stamp.{Stamp}
 use Rattle.rule_stamp.specs.declared.Stamp.the-variants.{Usable, Unusable}
 use Rattle.rule_stamp.specs.Stamp.{stampOf, stale, skewOf}
 use Rattle.rule_causes.specs.declared.Cause.{Cause}
-use Rattle.rule_causes.specs.Causes.{causeOf}
+use Rattle.rule_causes.specs.Causes.{applies, causeOf}
 use Rattle.rule_verdict.specs.declared.Verdict as R
 use Rattle.rule_verdict.specs.declared.Verdict.the-variants as J
 use Rattle.packet_form.specs.Packet.{codeOf, areaOf}
@@ -19,7 +19,7 @@ use Rattle.nas_settings.specs.Settings.{Settings}
 use Rattle.packet_form.specs.Discards.{formOf}
 use Rattle.packet_mac.specs.Discards.{badMac}
 use Rattle.rule_verdict.specs.Discards.{signedBy}
-use Rattle.rule_verdict.specs.Verdict.{applies, nakOr, freshVerdict, stampVerdict, checkVerdict, verdictOf}
+use Rattle.rule_verdict.specs.Verdict.{nakOr, freshVerdict, stampVerdict, checkVerdict, verdictOf}
 use Rattle.das_answer.specs.declared.Answer.the-variants as A
 use Rattle.das_handle.specs.Handle.{handleAnswer}
 use Rattle.dac_write.specs.Writer.{Draft, writeRefusal, requestOf}

@@ -7,20 +7,20 @@ use Prim.Native.Nat.{ℕ}
 use borrow.Author.Tests.{eqb-false}
 use lib.Dec.{eqb}
 use lib.IntN.{ℤ}
-use Rattle.attr_survey.specs.Types.{member}
+use Rattle.octet_numbers.specs.Runs.{member}
 use Rattle.packet_auth.specs.Signing.{zeros}
 use Rattle.rule_stamp.specs.declared.Stamp.{Stamp}
 use Rattle.rule_stamp.specs.declared.Stamp.the-variants.{Usable, Unusable}
 use Rattle.rule_stamp.specs.Stamp.{stampOf, stale, skewOf}
 use Rattle.rule_causes.specs.declared.Cause.{Cause}
-use Rattle.rule_causes.specs.Causes.{causeOf}
+use Rattle.rule_causes.specs.Causes.{applies, causeOf}
 use Rattle.rule_verdict.specs.declared.Verdict as R
 use Rattle.rule_verdict.specs.declared.Verdict.the-variants as J
 use Rattle.packet_form.specs.Packet.{codeOf, areaOf}
 use Rattle.nas_settings.specs.Settings.{Settings}
 use Rattle.packet_form.specs.Discards.{formOf, badLength, badCode, badAttributes}
 use Rattle.packet_mac.specs.Discards.{badMac}
-use Rattle.rule_verdict.specs.Verdict.{applies, nakOr, freshVerdict, stampVerdict, checkVerdict, verdictOf}
+use Rattle.rule_verdict.specs.Verdict.{nakOr, freshVerdict, stampVerdict, checkVerdict, verdictOf}
 use Rattle.thm_demands.proofs.Cascades.{or-right, none-of, one-more}
 
 -- the number of a discard is one of these

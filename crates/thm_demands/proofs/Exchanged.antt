@@ -8,8 +8,8 @@ use Prim.Native.Nat.{ℕ}
 use borrow.Author.Tests.{eqb-false, ne-eqb}
 use lib.Dec.{eqb, ltb}
 use lib.ListN.{length}
-use Rattle.octet_numbers.specs.Runs.{write}
-use Rattle.attr_survey.specs.Types.{member}
+use Rattle.octet_numbers.specs.Runs.{write, member}
+
 use Rattle.nas_settings.specs.Settings.{badSecret}
 use Rattle.dac_write.specs.declared.Written as W
 use Rattle.dac_write.specs.declared.Written.the-variants.{Done, NotWritten}

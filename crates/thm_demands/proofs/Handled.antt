@@ -9,7 +9,7 @@ use borrow.Author.Tests.{eqb-false, eq-eqb, ne-eqb}
 use lib.Dec.{eqb, ltb}
 use lib.IntN.{ℤ}
 use lib.ListN.{length}
-use Rattle.attr_survey.specs.Types.{member}
+use Rattle.octet_numbers.specs.Runs.{member}
 use Rattle.table_slots.specs.Slot.{slotCount}
 use Rattle.rule_causes.specs.declared.Cause.the-variants.{SessionNotFound}
 use Rattle.rule_verdict.specs.declared.Verdict as R

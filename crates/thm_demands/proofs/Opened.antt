@@ -8,7 +8,7 @@ use Prim.Native.Nat.{ℕ}
 use borrow.Author.Tests.{eqb-false, eq-eqb, ne-eqb}
 use lib.Dec.{eqb}
 use lib.ListN.{length}
-use Rattle.attr_survey.specs.Types.{member}
+use Rattle.octet_numbers.specs.Runs.{member}
 use Rattle.packet_form.specs.Discards.{formOf}
 use Rattle.sched_state.specs.declared.Scheduler as D
 use Rattle.sched_state.specs.declared.Called as C

@@ -7,7 +7,7 @@ use mathlib.Core.List.{List, [], _∷_}
 use Prim.Native.Nat.{ℕ}
 use lib.Dec.{eqb, ltb}
 use lib.IntN.{ℤ}
-use Rattle.attr_survey.specs.Types.{member}
+use Rattle.octet_numbers.specs.Runs.{member}
 use Rattle.rule_stamp.specs.Stamp.{stampOf}
 use Rattle.table_slots.specs.Slot.{slotCount}
 use Rattle.table_change.specs.Change.{countMarked}

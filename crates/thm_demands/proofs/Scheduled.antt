@@ -7,7 +7,7 @@ use mathlib.Core.List.{List, [], _∷_}
 use Prim.Native.Nat.{ℕ}
 use borrow.Author.Tests.{ne-eqb}
 use lib.Dec.{eqb, ltb}
-use Rattle.attr_survey.specs.Types.{member}
+use Rattle.octet_numbers.specs.Runs.{member}
 use Rattle.nas_settings.specs.Settings.{Settings, badSecret, badName}
 use Rattle.sched_state.specs.declared.Scheduler as D
 use Rattle.sched_state.specs.declared.Called as C

@@ -5,7 +5,7 @@ use mathlib.Core.Bool.{Bool, true, false, cond, not, _&&_}
 use mathlib.Core.List.{List, [], _∷_}
 use Prim.Native.Nat.{ℕ}
 use lib.Dec.{eqb, ltb}
-use Rattle.attr_survey.specs.Types.{member}
+use Rattle.octet_numbers.specs.Runs.{member}
 use Rattle.table_slots.specs.Slot.{slotCount, slot, live}
 use Rattle.table_records.specs.Record.{Session, fitsRecord}
 use Rattle.table_sessions.specs.declared.Inserted as I

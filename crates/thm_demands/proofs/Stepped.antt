@@ -8,7 +8,7 @@ use Prim.Native.Nat.{ℕ}
 use borrow.Author.Tests.{eqb-false, eq-eqb, ne-eqb}
 use lib.Dec.{eqb, ltb}
 use lib.ListN.{length}
-use Rattle.attr_survey.specs.Types.{member}
+use Rattle.octet_numbers.specs.Runs.{member}
 use Rattle.table_slots.specs.Slot.{slotCount}
 use Rattle.das_answer.specs.declared.Answer as A′
 use Rattle.das_answer.specs.declared.Answer.the-variants as A

@@ -9,7 +9,7 @@ use mathlib.Core.Path.{_≡_}
 use Prim.Native.Nat.{ℕ}
 use lib.IntN.{ℤ}
 use lib.ListN.{length}
-use Rattle.attr_survey.specs.Types.{member}
+use Rattle.octet_numbers.specs.Runs.{member}
 use Rattle.table_records.specs.Record.{Session}
 use Rattle.table_sessions.specs.Session.{insertAnswer, insertTable, removeAnswer, removeTable}
 use Rattle.table_sessions.specs.declared.Inserted.the-variants.{NotInserted}

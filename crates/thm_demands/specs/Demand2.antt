@@ -23,7 +23,8 @@ use Rattle.nas_settings.specs.Settings.{Settings}
 use Rattle.packet_form.specs.Discards.{formOf}
 use Rattle.packet_mac.specs.Discards.{badMac}
 use Rattle.rule_verdict.specs.Discards.{signedBy}
-use Rattle.rule_verdict.specs.Verdict.{applies, verdictOf}
+use Rattle.rule_causes.specs.Causes.{applies}
+use Rattle.rule_verdict.specs.Verdict.{verdictOf}
 use Rattle.packet_write.specs.Packets.{macValued}
 use Rattle.das_reply_parts.specs.Reply.{statePart, causePart, proxyPart, maced, replyMac, replyOf}
 use Rattle.das_effects.specs.Matching.{matchesIn, matchCount}

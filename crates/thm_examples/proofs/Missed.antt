@@ -10,7 +10,7 @@ use lib.Dec.{eqb}
 use Rattle.attr_walk.specs.declared.Attribute.{Attribute}
 use Rattle.attr_walk.specs.declared.Search.the-variants.{At}
 use Rattle.attr_walk.specs.Attributes.{attributes, any, found, firstOf, countOf, kindIs}
-use Rattle.attr_survey.specs.Types.{supported, unsupportedIn, misfitOf, misfitting, among, criteria, firstRepeated, also, none}
+use Rattle.attr_types.specs.Types.{supported, unsupportedIn, misfitOf, misfitting, among, criteria, firstRepeated, also, none}
 use Rattle.rule_causes.specs.declared.Cause.the-variants.{MissingAttribute}
 use Rattle.rule_causes.specs.Causes.{mismatched, missing, invalid, causeOf}
 use Rattle.thm_examples.specs.Sizes.{emptyOf}

@@ -11,7 +11,7 @@ use Rattle.octet_numbers.specs.Runs.{equalBytes}
 use Rattle.packet_auth.specs.Signing.{authenticator}
 use Rattle.rule_causes.specs.declared.Cause.{Cause}
 use Rattle.packet_form.specs.Packet.{codeOf, identifierOf, lengthOf, authOf}
-use Rattle.rule_verdict.specs.Verdict.{applies}
+use Rattle.rule_causes.specs.Causes.{applies}
 use Rattle.packet_form.specs.Discards.{badLength, badAttributes, formOf, Sized}
 use Rattle.packet_mac.specs.Discards.{badMac}
 use Rattle.das_reply_parts.specs.Reply.{bodyOf, maced, replyLength, headOf, replyOf}

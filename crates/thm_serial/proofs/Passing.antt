@@ -17,12 +17,12 @@ use Rattle.attr_walk.proofs.Searches.{only}
 use Rattle.attr_survey.specs.Survey.{sizeOf}
 use Rattle.packet_auth.specs.Signing.{zeros}
 use Rattle.rule_stamp.specs.Stamp.{stampOf}
-use Rattle.rule_causes.specs.Causes.{causeOf}
+use Rattle.rule_causes.specs.Causes.{applies, causeOf}
 use Rattle.rule_verdict.specs.declared.Verdict.the-variants as J
 use Rattle.packet_form.specs.Packet.{codeOf, lengthOf, areaOf}
 use Rattle.nas_settings.specs.Settings.{Settings}
 use Rattle.packet_mac.specs.Discards.{badMac}
-use Rattle.rule_verdict.specs.Verdict.{applies, nakOr, freshVerdict, checkVerdict}
+use Rattle.rule_verdict.specs.Verdict.{nakOr, freshVerdict, checkVerdict}
 use Rattle.das_reply.proofs.Judged.{mac-eighteen}
 use Rattle.das_reply.proofs.Fresh.{reached, uncaused}
 use Rattle.sched_reread.specs.Reread.{usable, oddMac, holdsPassed}

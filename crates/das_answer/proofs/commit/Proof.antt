@@ -2,13 +2,13 @@
 -- Assumes nothing.
 use borrow.Author.Needs.{needs}
 use Rattle.packet_form.proofs.Areas.{area-of}
-use Rattle.rule_verdict.proofs.Verdicts.{surveyed-at}
+use Rattle.attr_survey.proofs.Areas.{kept-at}
 use Rattle.das_answer.proofs.Commits.{misfit-at, commit-none, commit-some, commit-none-reply, commit-some-reply, commit-table}
 use Rattle.das_answer.proofs.commit.Statement.{statement}
 use Rattle.das_answer.proofs.commit.Tie as tie
 
 change-requires : tie.Need-change-requires
-change-requires c κs = (search (needs, surveyed-at, area-of), search (needs, misfit-at, area-of))
+change-requires c κs = (search (needs, kept-at, area-of), search (needs, misfit-at, area-of))
 
 nak-requires : tie.Need-nak-requires
 nak-requires c κs = ((search needs, search needs), (search needs, (search needs, search needs)))

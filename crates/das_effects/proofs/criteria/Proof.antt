@@ -1,7 +1,7 @@
 -- `das_effects::criteria` meets its contract: five types, one behind the other.
 -- Assumes nothing.
 use borrow.Author.Needs.{needs}
-use Rattle.das_effects.proofs.Taken.{with-all}
+use Rattle.das_effects.proofs.Counted.{with-all}
 use Rattle.das_effects.proofs.criteria.Statement.{statement}
 use Rattle.das_effects.proofs.criteria.Tie as tie
 

@@ -1,13 +1,10 @@
 -- `das_reply_parts::put_state` meets its contract: the pass over the attributes says where the first State stands, or that there is none.
 -- Assumes nothing.
 use Rattle.packet_write.proofs.Fronts.{named-fits, named-written, named-end, nothing-written, nothing-end}
-use Rattle.das_reply_parts.proofs.States.{state-sub, state-stands, state-some, state-none}
+use Rattle.das_reply_parts.proofs.States.{state-stands, state-some, state-none}
 use borrow.Author.Needs.{needs}
 use Rattle.das_reply_parts.proofs.put_state.Statement.{statement}
 use Rattle.das_reply_parts.proofs.put_state.Tie as tie
-
-sub-at : tie.Need-sub-at
-sub-at c = search (needs, state-sub)
 
 put-attribute-requires : tie.Need-put-attribute-requires
 put-attribute-requires c κs = (search (needs, state-stands), search (needs, named-fits, state-some))
@@ -25,8 +22,6 @@ put-state-spec =
     (λ c κs. search needs)
     (λ c. search needs)
     (λ c κs. search needs)
-    (λ c κs. search needs)
-    sub-at
     put-attribute-requires
     (λ c. search needs)
     returns

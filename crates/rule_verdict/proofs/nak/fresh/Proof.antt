@@ -1,12 +1,13 @@
 -- `rule_verdict::nak::fresh` meets its contract: the cause of the area decides.
 -- Assumes nothing.
 use borrow.Author.Needs.{needs}
-use Rattle.rule_verdict.proofs.Verdicts.{surveyed-at, fresh-law}
+use Rattle.attr_survey.proofs.Areas.{kept-at, flagged-at}
+use Rattle.rule_verdict.proofs.Verdicts.{fresh-law}
 use Rattle.rule_verdict.proofs.nak.fresh.Statement.{statement}
 use Rattle.rule_verdict.proofs.nak.fresh.Tie as tie
 
 first-cause-requires : tie.Need-first-cause-requires
-first-cause-requires c κs = search (needs, surveyed-at)
+first-cause-requires c κs = (search (needs, flagged-at), search (needs, kept-at))
 
 returns : tie.Need-returns
 returns c = search (needs, fresh-law)

@@ -1,9 +1,0 @@
--- `attr_survey::classes::says` meets its contract: the code divides as the definition does.
--- Assumes nothing.
-use borrow.Author.Needs.{needs}
-use Rattle.attr_survey.proofs.Rules.{says-bit}
-use Rattle.attr_survey.proofs.classes.says.Statement.{statement}
-use Rattle.attr_survey.proofs.classes.says.Tie as tie
-
-pub says-spec : {M : Type 1} → statement M
-says-spec = tie.close (tie.spec (λ c. search needs) (λ c. search (needs, says-bit)))
