@@ -12,7 +12,7 @@ use Rattle.octet_numbers.proofs.Part.{length-part}
 use Rattle.attr_walk.specs.Attributes.{tiled}
 use Rattle.packet_auth.specs.Signing.{authenticator}
 use Rattle.attr_survey.specs.declared.Flags.{Flags}
-use Rattle.attr_survey.specs.Survey.{Surveyed}
+use Rattle.attr_survey.specs.Survey.{Flagged}
 use Rattle.packet_form.specs.Packet.{codeOf, identifierOf, areaOf}
 use Rattle.nas_settings.specs.Settings.{badSecret}
 use Rattle.packet_form.specs.Discards.{badLength, badAttributes, formOf, Sized}
@@ -51,10 +51,9 @@ module _ (secret q r : List ℕ) (d : ℕ) (is : d ≡ formOf q) where
     length-fails h = rw (← is, eq-eqb d 0 none, ← long, h)
 
     -- f is what a pass over the reply's attributes told
-    module _ (good : b ≡ false) (s : List ℕ) (n k : ℕ) (f : Flags) (count ends sizes : List ℕ) (sized : Sized r n) (area : s ≡ part 20 (n - 20) r)
-        (surveyed : Surveyed s k f count ends sizes) where
+    module _ (good : b ≡ false) (s : List ℕ) (n k : ℕ) (f : Flags) (sized : Sized r n) (area : s ≡ part 20 (n - 20) r) (flagged : Flagged s k f) where
       tiles-as : f .tiled ≡ tiled (areaOf r)
-      tiles-as = surveyed .tiles ∙ rw (area-of s r n area sized)
+      tiles-as = flagged .tiles ∙ rw (area-of s r n area sized)
 
       pub attributes-fail : f .tiled ≡ false → 2 ≡ failureOf secret q r
       unfolding failureOf badRequest badReply badAttributes

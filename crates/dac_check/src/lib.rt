@@ -6,8 +6,8 @@ ghost use lib.Dec.{eqb};
 ghost use lib.ListN.{length};
 ghost use Rattle.octet_numbers.specs.Runs.{part, equalBytes};
 ghost use Rattle.packet_auth.specs.Signing.{authenticator};
-ghost use Rattle.attr_survey.specs.Survey.{Surveyed};
-ghost use Rattle.packet_form.specs.Packet.{codeOf, areaOf};
+ghost use Rattle.attr_survey.specs.Survey.{Kept};
+ghost use Rattle.packet_form.specs.Packet.{areaOf};
 ghost use Rattle.packet_form.specs.Discards.{formOf, Sized};
 ghost use Rattle.dac_check.specs.ReplyCheck.{badReply, failureOf, checkAnswer};
 
@@ -52,13 +52,12 @@ fn mismatch(
     q: &[u8],
     r: &[u8],
     n: usize,
-    f: attr_survey::Flags,
     count: &[u8; 256],
     ends: &[u16; 256],
     sizes: &[u8; 256],
 ) -> u8
     requires { ⌜ (formOf (now q) ≡ 0) × (20 ≤ length (now q)) × (badReply (now r) ≡ false) × Sized (now r) n ⌝ }
-    requires { ⌜ Surveyed (areaOf (now r)) (codeOf (now r)) f (now count) (now ends) (now sizes) ⌝ }
+    requires { ⌜ Kept (areaOf (now r)) (now count) (now ends) (now sizes) ⌝ }
     ensures { λ v. ⌜ v ≡ failureOf (now (secret .entry)) (now (q .entry)) (now (r .entry)) ⌝ }
 {
     if wrong_code(q[0], r[0]) {
@@ -69,7 +68,7 @@ fn mismatch(
     }
     let auth = octet_runs::slice(q, 4, 16);
     if authentic(r, n, auth, secret) {
-        if packet_mac::bad_mac(r, n, auth, secret, f, count, ends, sizes) {
+        if packet_mac::bad_mac(r, n, auth, secret, count, ends, sizes) {
             return 6;
         }
         return 0;
@@ -94,7 +93,7 @@ fn failure(secret: &[u8], request: &[u8], reply: &[u8]) -> u8
     let mut sizes = [0u8; 256];
     let f = attr_survey::survey(s, reply[0], &mut count, &mut ends, &mut sizes);
     if f.tiled {
-        return mismatch(secret, request, reply, n, f, &count, &ends, &sizes);
+        return mismatch(secret, request, reply, n, &count, &ends, &sizes);
     }
     2
 }

@@ -44,7 +44,10 @@ pub fn number(
     ensures { λ r. ⌜ r ≡ takenNumber (now (s .entry)) kind (now (count .entry)) (now (ends .entry)) (now (sizes .entry)) ⌝ }
 {
     if attr_lookup::has(count, kind) {
-        return table_change::Number::Set(octet_numbers::be32(s, attr_lookup::place_of(ends, sizes, kind)));
+        return table_change::Number::Set(octet_numbers::be32(
+            s,
+            attr_lookup::place_of(ends, sizes, kind),
+        ));
     }
     table_change::Number::Keep
 }
@@ -54,7 +57,10 @@ pub fn text(kind: u8, count: &[u8; 256], ends: &[u16; 256], sizes: &[u8; 256]) -
     ensures { λ r. ⌜ r ≡ takenText kind (now (count .entry)) (now (ends .entry)) (now (sizes .entry)) ⌝ }
 {
     if attr_lookup::has(count, kind) {
-        return table_change::Text::Value(attr_lookup::place_of(ends, sizes, kind), attr_lookup::size_of(sizes, kind));
+        return table_change::Text::Value(
+            attr_lookup::place_of(ends, sizes, kind),
+            attr_lookup::size_of(sizes, kind),
+        );
     }
     table_change::Text::Same
 }

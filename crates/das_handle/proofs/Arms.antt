@@ -1,87 +1,113 @@
--- Each arm of a checked request is its part of the definition: the verdict decides the answer, and the answer the table and the reply.
--- Where it passed, the marks of the walk are the matching sessions.
+-- Each arm of a judged request is its part of the definition: what ended is the answer, and no ACK, so the table stays; what passed is answered by the commit.
 -- Assumes nothing.
 use mathlib.Core.Path.{_≡_, refl, sym, ap, _∙_}
-use mathlib.Core.Bool.{Bool, true, false, cond}
+use mathlib.Core.Bool.{Bool, true, false, true≢false, false≢true}
 use mathlib.Core.List.{List}
-use Prim.Native.Nat.{ℕ}
-use borrow.Author.Tests.{eqb-true}
-use lib.Dec.{eqb}
+use Prim.Native.Nat.{ℕ, _≤_}
 use lib.IntN.{ℤ}
-use Rattle.octet_numbers.specs.Runs.{write}
-use Rattle.attr_walk.specs.Attributes.{attributes, found}
-use Rattle.attr_survey.specs.declared.Flags.{Flags}
-use Rattle.attr_types.specs.Types.{firstRepeated, none}
-use Rattle.attr_survey.specs.Survey.{Surveyed}
-use Rattle.table_criteria.specs.declared.Criterion.{Criterion}
-use Rattle.table_slots.specs.Slot.{slotCount}
-use Rattle.table_criteria.specs.Matching.{matchesAt}
-use Rattle.table_criteria.specs.Marks.{marksAfter}
-use Rattle.table_change.specs.Change.{countMarked}
-use Rattle.rule_causes.specs.declared.Cause as C
-use Rattle.rule_causes.specs.declared.Cause.the-variants.{SessionNotFound, NoCause}
+use lib.ListN.{length}
+use Rattle.octet_numbers.proofs.Write.{length-write}
+use Rattle.rule_causes.specs.declared.Cause.the-variants.{NoCause}
 use Rattle.rule_verdict.specs.declared.Verdict as R
 use Rattle.rule_verdict.specs.declared.Verdict.the-variants as J
-use Rattle.packet_form.specs.Packet.{codeOf, areaOf}
-use Rattle.das_reply_parts.specs.Reply.{replyLength, replyOf}
-use Rattle.das_effects.specs.Kept.{keptCriteria}
+use Rattle.packet_form.specs.Packet.{areaOf}
+use Rattle.packet_form.specs.Discards.{Sized}
+use Rattle.nas_settings.specs.Settings.{Settings}
+use Rattle.rule_verdict.specs.Verdict.{checkVerdict}
+use Rattle.das_reply_parts.specs.Reply.{replyOf}
+use Rattle.das_reply.proofs.Fresh.{passed-short, passed-misfit, passed-once}
 use Rattle.das_effects.specs.Matching.{matchCount}
-use Rattle.das_effects.specs.Changes.{changeOf}
-use Rattle.das_effects.proofs.Marked.{none-marked, marks-change, marks-count}
 use Rattle.das_answer.specs.declared.Answer as D
 use Rattle.das_answer.specs.declared.Answer.the-variants as A
 use Rattle.das_answer.specs.Replies.{replyAs}
-use Rattle.das_answer.specs.Commit.{countAnswer, commitAnswer, commitTable}
-use Rattle.das_handle.specs.Handle.{answerOf, tableAs}
+use Rattle.das_answer.specs.Commit.{countAnswer}
+use Rattle.das_judge.specs.declared.Judged as G
+use Rattle.das_judge.specs.declared.Judged.the-variants.{Ended, Passed}
+use Rattle.das_judge.specs.Judged.{judgedAs, replyJudged}
+use Rattle.das_handle.specs.Handle.{answerAs, answerOf, tableAs}
+use Rattle.das_handle.specs.Passed.{Committable, tableAfter, replyAfter}
 
--- y is the verdict of the definition, x that of the call
-module _ (p t : List ℕ) (x y : R.Verdict) (is : x ≡ y) where
-  pub arm-discarded : (d : ℕ) → x ≡ J.Discarded d → A.Discarded d ≡ answerOf p t y
-  arm-discarded d e = rw (← is, e)
+abbrev passes : G.Judged → Bool
+passes (Ended a) = false
+passes (Passed k) = true
 
-  pub arm-stale : (k k′ : ℤ) → x ≡ J.Stale k → k′ ≡ k → A.Stale k′ ≡ answerOf p t y
-  arm-stale k k′ e g = rw (← is, e, g)
+-- an answer that a verdict ends with is no ACK
+no-ack : (p t : List ℕ) (v : R.Verdict) (a : D.Answer) → judgedAs p v ≡ Ended a → t ≡ tableAs p t a
+no-ack p t (J.Discarded d) a e = ap (λ (x : G.Judged). tableAs p t (answerAs p t x)) e
+no-ack p t (J.Stale k) a e = ap (λ (x : G.Judged). tableAs p t (answerAs p t x)) e
+no-ack p t (J.Nak c k) a e = ap (λ (x : G.Judged). tableAs p t (answerAs p t x)) e
+no-ack p t (J.Passed k) a e = absurd (true≢false (ap passes e))
 
-  pub arm-nak : (c : C.Cause) (k k′ : ℤ) (r : D.Answer) → x ≡ J.Nak c k → k′ ≡ k → r ≡ A.Nak c k′ (replyLength p c) → r ≡ answerOf p t y
-  arm-nak c k k′ r e g h = rw (← is, e, ← g) h
+-- ---- from what the judgement x left, to the definition: v is its verdict, b the buffer before it, u after it
 
-  pub arm-passed : (k k′ : ℤ) (r : D.Answer) → x ≡ J.Passed k → k′ ≡ k → r ≡ countAnswer p (matchCount (areaOf p) t) k′ → r ≡ answerOf p t y
-  arm-passed k k′ r e g h = rw (← is, e, ← g) h
+module _ (secret p t b u : List ℕ) (x : G.Judged) (v : R.Verdict) (is : x ≡ judgedAs p v) (r : D.Answer) (given : r ≡ answerAs p t x) where
+  pub signed-answer : r ≡ answerOf p t v
+  signed-answer = given ∙ ap (answerAs p t) is
 
-pub nak-table : (p t : List ℕ) (r : D.Answer) (c : C.Cause) (k : ℤ) (n : ℕ) → r ≡ A.Nak c k n → t ≡ tableAs p t r
-nak-table p t r c k n e = rw e
+  by-table : (y : G.Judged) → y ≡ judgedAs p v → tableAfter p t y ≡ tableAs p t (answerAs p t y)
+  by-table (Ended a) e = no-ack p t v a (sym e)
+  by-table (Passed k) e = refl
 
-pub nak-reply : (secret p b u : List ℕ) (r : D.Answer) (c : C.Cause) (k : ℤ) (n : ℕ) → r ≡ A.Nak c k n → u ≡ write b 0 (replyOf secret p c) → u ≡ replyAs secret p b r
-nak-reply secret p b u r c k n e h = h ∙ rw e
+  pub signed-table : (w : List ℕ) → w ≡ tableAfter p t x → w ≡ tableAs p t r
+  signed-table w h = h ∙ by-table x is ∙ ap (tableAs p t) (sym given)
 
--- ---- a request that passed
+  by-reply : (y : G.Judged) → replyAfter secret p t (replyJudged secret p b y) y ≡ replyAs secret p b (answerAs p t y)
+  by-reply (Ended a) = refl
+  by-reply (Passed k) = refl
 
-module _ (p t s m : List ℕ) (cs : List Criterion) (f : Flags) (count ends sizes : List ℕ) (surveyed : Surveyed (areaOf p) (codeOf p) f count ends sizes)
-    (once : found (firstRepeated none (attributes (areaOf p))) ≡ false) (area : s ≡ areaOf p) (kept : cs ≡ keptCriteria count ends sizes)
-    (walked : m ≡ marksAfter (matchesAt s cs t) (slotCount t)) where
-  marks : m ≡ marksAfter (matchesAt (areaOf p) (keptCriteria count ends sizes) t) (slotCount t)
-  marks = walked ∙ rw (area, kept)
+  pub signed-reply : (w : List ℕ) → u ≡ replyJudged secret p b x → w ≡ replyAfter secret p t u x → w ≡ replyAs secret p b r
+  signed-reply w e h = h ∙ ap (λ (l : List ℕ). replyAfter secret p t l x) e ∙ by-reply x ∙ ap (replyAs secret p b) (sym given)
 
-  counted : countMarked m (slotCount t) t ≡ matchCount (areaOf p) t
-  counted = marks-count (areaOf p) t m (codeOf p) f count ends sizes surveyed once marks
+-- ---- what the commit may count on
 
-  commit-same : (skew : ℤ) → commitAnswer p m t skew ≡ countAnswer p (matchCount (areaOf p) t) skew
-  unfolding commitAnswer
-  commit-same skew = rw counted
+only-passed : (p : List ℕ) (v : R.Verdict) (k : ℤ) → judgedAs p v ≡ Passed k → (i : ℤ) × (v ≡ J.Passed i)
+only-passed p (J.Discarded d) k e = absurd (false≢true (ap passes e))
+only-passed p (J.Stale i) k e = absurd (false≢true (ap passes e))
+only-passed p (J.Nak c i) k e = absurd (false≢true (ap passes e))
+only-passed p (J.Passed i) k e = (i, refl)
 
-  pub passed-answer : (k k′ : ℤ) (r : D.Answer) → r ≡ commitAnswer p m t k′ → k′ ≡ k → r ≡ countAnswer p (matchCount (areaOf p) t) k
-  passed-answer k k′ r h g = h ∙ commit-same k′ ∙ rw g
+pub judged-commits : (g : Settings) (p : List ℕ) (clock n : ℕ) (x : G.Judged) → x ≡ judgedAs p (checkVerdict g true p clock) → Sized p n → (k : ℤ) → x ≡ Passed k → Committable p
+judged-commits g p clock n x is sized k e =
+    let v = only-passed p (checkVerdict g true p clock) k (sym is ∙ e) in
+    record {
+      fits = passed-misfit g p clock (checkVerdict g true p clock) refl (v .0) (v .1);
+      once = passed-once g p clock (checkVerdict g true p clock) refl (v .0) (v .1);
+      short = λ c. passed-short g p clock (checkVerdict g true p clock) refl n c (v .0) (v .1) sized;
+    }
 
-  -- where none matches nothing is changed
-  by-count : (b : Bool) (n i j : ℕ) (skew : ℤ) → eqb n 0 ≡ b → n ≡ countMarked m (slotCount t) t → commitTable p m t ≡ tableAs p t (cond b (A.Nak SessionNotFound skew i) (A.Ack n skew j))
-  unfolding commitTable
-  by-count true n i j skew h e = none-marked (areaOf p) (changeOf (codeOf p) (areaOf p)) m (slotCount t) t (sym e ∙ eqb-true n 0 h)
-  by-count false n i j skew h e = marks-change (areaOf p) t m (codeOf p) f count ends sizes surveyed once marks
+-- the buffer after a judgement is as long as before
+judged-long : (secret p b : List ℕ) (x : G.Judged) → length (replyJudged secret p b x) ≡ length b
+judged-long secret p b (Ended (A.Refused n)) = refl
+judged-long secret p b (Ended (A.Discarded d)) = refl
+judged-long secret p b (Ended (A.Stale k)) = refl
+judged-long secret p b (Ended (A.Nak c k n)) = length-write b 0 (replyOf secret p c)
+judged-long secret p b (Ended (A.Ack m k n)) = length-write b 0 (replyOf secret p NoCause)
+judged-long secret p b (Passed k) = refl
 
-  pub passed-table : (k : ℤ) (r : D.Answer) (u : List ℕ) → r ≡ commitAnswer p m t k → u ≡ commitTable p m t → u ≡ tableAs p t r
-  unfolding commitAnswer countAnswer
-  passed-table k r u e h =
-      h ∙ by-count (eqb (countMarked m (slotCount t) t) 0) (countMarked m (slotCount t) t) (replyLength p SessionNotFound) (replyLength p NoCause) k refl refl ∙ ap (tableAs p t) (sym e)
+pub judged-room : (secret p b u : List ℕ) (x : G.Judged) → u ≡ replyJudged secret p b x → 4096 ≤ length b → 4096 ≤ length u
+judged-room secret p b u x e h = rw (e, judged-long secret p b x) h
 
-pub passed-reply : (secret p b u : List ℕ) (r x : D.Answer) → r ≡ x → u ≡ replyAs secret p b x → u ≡ replyAs secret p b r
-passed-reply secret p b u r x e h = h ∙ ap (replyAs secret p b) (sym e)
+-- ---- the arms of what follows
+
+pub ended-arm : (p t : List ℕ) (x : G.Judged) (a : D.Answer) → x ≡ Ended a → a ≡ answerAs p t x
+ended-arm p t x a e = rw e
+
+module _ (p t : List ℕ) (x : G.Judged) (k k′ : ℤ) (e : x ≡ Passed k) (g : k′ ≡ k) (r : D.Answer) (h : r ≡ countAnswer p (matchCount (areaOf p) t) k′) where
+  pub passed-arm : r ≡ answerAs p t x
+  passed-arm = h ∙ rw (e, g)
+
+  pub passed-table : (w : List ℕ) → w ≡ tableAs p t r → w ≡ tableAfter p t x
+  passed-table w i = i ∙ rw (h, e, g)
+
+  pub passed-reply : (secret b w : List ℕ) → w ≡ replyAs secret p b r → w ≡ replyAfter secret p t b x
+  passed-reply secret b w i = i ∙ rw (h, e, g)
+
+module _ (p t : List ℕ) (x : G.Judged) (a : D.Answer) (e : x ≡ Ended a) where
+  pub ended-table : t ≡ tableAfter p t x
+  ended-table = rw e
+
+  pub ended-reply : (secret b : List ℕ) → b ≡ replyAfter secret p t b x
+  ended-reply secret b = rw e
+
+pub commits-here : (p : List ℕ) (x : G.Judged) (k : ℤ) → ((i : ℤ) → x ≡ Passed i → Committable p) → x ≡ Passed k → Committable p
+commits-here p x k h e = h k e

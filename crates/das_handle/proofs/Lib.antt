@@ -1,3 +1,5 @@
 pub mod Arms
+pub mod Walked
+pub mod Matched
 pub mod Stages
 pub mod Bounds

@@ -5,26 +5,29 @@ use mathlib.Core.List.{List}
 use Prim.Native.Nat.{ℕ}
 use lib.Dec.{eqb}
 use Rattle.rule_verdict.specs.declared.Verdict as R
-use Rattle.rule_verdict.specs.declared.Verdict.the-variants as J
 use Rattle.packet_form.specs.Packet.{codeOf, areaOf}
 use Rattle.nas_settings.specs.Settings.{Settings}
 use Rattle.rule_verdict.specs.Discards.{signedBy}
 use Rattle.rule_verdict.specs.Verdict.{verdictOf}
-use Rattle.das_reply_parts.specs.Reply.{replyLength}
 use Rattle.das_effects.specs.Matching.{matchCount}
 use Rattle.das_effects.specs.Changes.{changeMatching}
 use Rattle.das_answer.specs.declared.Answer as D
 use Rattle.das_answer.specs.declared.Answer.the-variants as A
 use Rattle.das_answer.specs.Commit.{countAnswer}
 use Rattle.das_answer.specs.Replies.{replyAs}
+use Rattle.das_judge.specs.declared.Judged as G
+use Rattle.das_judge.specs.declared.Judged.the-variants.{Ended, Passed}
+use Rattle.das_judge.specs.Judged.{judgedAs}
 use Rattle.das_handle.specs.Refusals.{refusalOf}
 
--- the answer to the request p that a verdict gives: a NAK tells its reply's length; where causes 1 to 6 passed, the live sessions that match decide
+-- the answer to the request p: where causes 1 to 6 passed, the live sessions that match decide
+abbrev pub answerAs : List ℕ → List ℕ → G.Judged → D.Answer
+answerAs p t (Ended a) = a
+answerAs p t (Passed skew) = countAnswer p (matchCount (areaOf p) t) skew
+
+-- that of a verdict
 abbrev pub answerOf : List ℕ → List ℕ → R.Verdict → D.Answer
-answerOf p t (J.Discarded d) = A.Discarded d
-answerOf p t (J.Stale skew) = A.Stale skew
-answerOf p t (J.Nak c skew) = A.Nak c skew (replyLength p c)
-answerOf p t (J.Passed skew) = countAnswer p (matchCount (areaOf p) t) skew
+answerOf p t v = answerAs p t (judgedAs p v)
 
 -- a refusal returns its number alone, before any judgement of the packet
 unfoldable pub handleAnswer : Settings → List ℕ → List ℕ → List ℕ → ℕ → D.Answer

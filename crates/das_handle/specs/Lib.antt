@@ -1,2 +1,3 @@
 pub mod Refusals
 pub mod Handle
+pub mod Passed

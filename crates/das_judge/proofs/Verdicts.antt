@@ -18,8 +18,7 @@ use Rattle.das_answer.specs.declared.Answer as D
 use Rattle.das_answer.specs.declared.Answer.the-variants as A
 use Rattle.das_judge.specs.declared.Judged.{Judged}
 use Rattle.das_judge.specs.declared.Judged.the-variants.{Ended, Passed}
-use Rattle.das_judge.specs.Judged.{judgedAs}
-use Rattle.das_judge.specs.Stored.{replyJudged}
+use Rattle.das_judge.specs.Judged.{judgedAs, replyJudged}
 
 -- ---- the arms
 
@@ -33,8 +32,8 @@ module _ (p : List ℕ) (v : R.Verdict) where
   pub arm-nak : (c : Cause) (k k′ : ℤ) (a : D.Answer) → v ≡ J.Nak c k → k′ ≡ k → a ≡ A.Nak c k′ (replyLength p c) → Ended a ≡ judgedAs p v
   arm-nak c k k′ a e g i = rw (i, e, g)
 
-  pub arm-passed : (k : ℤ) → v ≡ J.Passed k → Passed ≡ judgedAs p v
-  arm-passed k e = rw e
+  pub arm-passed : (k k′ : ℤ) → v ≡ J.Passed k → k′ ≡ k → Passed k′ ≡ judgedAs p v
+  arm-passed k k′ e g = rw (e, g)
 
 pub nak-reply : (secret p b u : List ℕ) (a : D.Answer) (c : Cause) (k : ℤ) (n : ℕ) → a ≡ A.Nak c k n → u ≡ write b 0 (replyOf secret p c) → u ≡ replyJudged secret p b (Ended a)
 nak-reply secret p b u a c k n i h = rw i h

@@ -17,20 +17,17 @@ fn check_signed(p: &[u8], n: usize, secret: &[u8], address: u32, name: &[u8], cl
     let mut count = [0u8; 256];
     let mut ends = [0u16; 256];
     let mut sizes = [0u8; 256];
-    let s = octet_runs::slice(p, 20, n - 20);
-    let f = attr_survey::survey(s, p[0], &mut count, &mut ends, &mut sizes);
-    rule_verdict::check(
+    rule_verdict::pass::verdict(
+        true,
         p,
         n,
-        true,
         secret,
         address,
         name,
         clock,
-        f,
-        &count,
-        &ends,
-        &sizes,
+        &mut count,
+        &mut ends,
+        &mut sizes,
     )
 }
 

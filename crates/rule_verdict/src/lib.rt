@@ -1,5 +1,6 @@
 // The verdict on a request before any session is looked at.
 pub mod nak; // nak.rt: causes 1 to 6
+pub mod pass; // pass.rt: the verdict by one pass over the attributes
 
 ghost use mathlib.Core.Path.{_≡_};
 ghost use Rattle.packet_form.specs.Packet.{codeOf, areaOf};

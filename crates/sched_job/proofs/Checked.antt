@@ -3,12 +3,14 @@
 use mathlib.Core.Path.{_≡_, refl, ap, _∙_}
 use mathlib.Core.List.{List}
 use Prim.Native.Nat.{ℕ}
+use lib.IntN.{ℤ}
 use Rattle.nas_settings.specs.Settings.{Settings}
 use Rattle.das_answer.specs.declared.Answer as D
 use Rattle.das_answer.specs.declared.Answer.the-variants as A
 use Rattle.das_judge.specs.declared.Judged.{Judged}
 use Rattle.das_judge.specs.declared.Judged.the-variants.{Ended, Passed}
-use Rattle.das_judge.specs.Stored.{storeJudged, replyJudged}
+use Rattle.das_judge.specs.Judged.{replyJudged}
+use Rattle.sched_reread.specs.Check.{storeJudged}
 use Rattle.sched_job.specs.declared.Job.{Job}
 use Rattle.sched_job.specs.declared.Moved.{Moved}
 use Rattle.sched_job.specs.declared.Ending.the-variants.{Done}
@@ -22,14 +24,14 @@ module _ (j : Job) (x : Judged) (r : Moved) where
   pub check-ended : (a : D.Answer) → x ≡ Ended a → r ≡ done a → r ≡ checkedAs j x
   check-ended a i e = rw i e
 
-  pub check-passed : (j′ : Job) → x ≡ Passed → j′ ≡ atFirstSlot j → r ≡ going j′ → r ≡ checkedAs j x
-  check-passed j′ i f e = rw (i, ← f) e
+  pub check-passed : (j′ : Job) (k : ℤ) → x ≡ Passed k → j′ ≡ atFirstSlot j → r ≡ going j′ → r ≡ checkedAs j x
+  check-passed j′ k i f e = rw (i, ← f) e
 
 -- ---- the reply buffer
 
 judged-after : (secret q b : List ℕ) (j : Job) (x : Judged) → replyJudged secret q b x ≡ replyAfter secret q b (checkedAs j x .ending)
 judged-after secret q b j (Ended a) = refl
-judged-after secret q b j Passed = refl
+judged-after secret q b j (Passed k) = refl
 
 module _ (secret q b : List ℕ) (r : Moved) where
   pub discarded-reply : (d : ℕ) → r ≡ done (A.Discarded d) → b ≡ replyAfter secret q b (r .ending)

@@ -12,13 +12,12 @@ use Rattle.attr_walk.specs.declared.Search.{Search}
 use Rattle.attr_walk.specs.declared.Search.the-variants.{At, Missing}
 use Rattle.attr_walk.specs.Attributes.{attributes, any, found, firstOf, onFirst, kindIs}
 use Rattle.attr_walk.proofs.Searches.{only}
-use Rattle.attr_survey.specs.declared.Flags.{Flags}
 use Rattle.attr_types.specs.Types.{misfitting, firstRepeated, none}
-use Rattle.attr_survey.specs.Survey.{Surveyed, sizeOf}
+use Rattle.attr_survey.specs.Survey.{Kept, sizeOf}
 use Rattle.attr_types.proofs.Repeats.{at-most-once}
 use Rattle.rule_stamp.specs.Stamp.{skewOf}
 use Rattle.rule_causes.specs.declared.Cause.{Cause}
-use Rattle.packet_form.specs.Packet.{codeOf, areaOf}
+use Rattle.packet_form.specs.Packet.{areaOf}
 use Rattle.packet_form.specs.Discards.{formOf, Sized}
 use Rattle.das_reply_parts.specs.Reply.{replyLength}
 use Rattle.das_reply.proofs.Fitting.{reply-short}
@@ -39,7 +38,7 @@ right-first : (x : Search) → onFirst (λ a. not (eqb (a .size) 18)) x ≡ fals
 right-first (At a) h g = size-right (eqb (a .size) 18) (a .size) refl h
 right-first Missing h g = absurd (false≢true g)
 
-module _ (n v : ℕ) (q : List ℕ) (f : Flags) (count ends sizes : List ℕ) (x : Stands n q v f count ends sizes) where
+module _ (n v : ℕ) (q : List ℕ) (count ends sizes : List ℕ) (x : Stands n q v count ends sizes) where
   eighteen : any (kindIs 80) (attributes (areaOf q)) ≡ true → sizeOf (firstOf (kindIs 80) (attributes (areaOf q))) ≡ 18
   eighteen g =
       let few = at-most-once (attributes (areaOf q)) (x .once) 80 (λ e. omega arith) in
@@ -54,8 +53,8 @@ module _ (n v : ℕ) (q : List ℕ) (f : Flags) (count ends sizes : List ℕ) (x
   pub stands-form : formOf q ≡ 0
   stands-form = x .form
 
-  pub stands-surveyed : Surveyed (areaOf q) (codeOf q) f count ends sizes
-  stands-surveyed = x .surveyed
+  pub stands-kept : Kept (areaOf q) count ends sizes
+  stands-kept = x .kept
 
   pub stands-fits : any misfitting (attributes (areaOf q)) ≡ false
   stands-fits = x .fits

@@ -20,7 +20,7 @@ use Rattle.das_answer.specs.Replies.{replyAs}
 use Rattle.das_answer.specs.Commit.{commitAnswer, commitTable}
 use Rattle.das_judge.specs.declared.Judged as G
 use Rattle.das_judge.specs.declared.Judged.the-variants.{Ended, Passed}
-use Rattle.das_judge.specs.Stored.{storeJudged}
+use Rattle.sched_reread.specs.Check.{storeJudged}
 use Rattle.sched_job.specs.declared.Job as B
 use Rattle.sched_job.specs.declared.Stage as S
 use Rattle.sched_job.specs.declared.Stage.the-variants.{Free, Hash, Check, Match}
@@ -52,7 +52,7 @@ hashJob secret j k q =
 -- what Check comes to: an answer ends the job, what passed goes on to slot 0
 abbrev pub checkedAs : B.Job → G.Judged → M.Moved
 checkedAs j (Ended a) = done a
-checkedAs j Passed = going (atFirstSlot j)
+checkedAs j (Passed skew) = going (atFirstSlot j)
 
 -- Check by the words, Length and clock as kept
 unfoldable pub checkMove : Settings → B.Job → List ℕ → M.Moved

@@ -14,7 +14,7 @@ fn checked(j: Job, x: Judged) -> Moved
 {
     match x {
         Judged::Ended(a) => crate::done(a),
-        Judged::Passed => crate::going(j.at_first_slot()),
+        Judged::Passed(_) => crate::going(j.at_first_slot()),
     }
 }
 
@@ -34,7 +34,7 @@ impl Job {
     {
         let words = self.words;
         let n = self.length;
-        let x = das_judge::check(words, q, n, secret, address, name, self.clock, reply);
+        let x = sched_reread::check::check(words, q, n, secret, address, name, self.clock, reply);
         checked(self, x)
     }
 }

@@ -17,12 +17,11 @@ impl Job {
         secret: &[u8],
         t: &mut [u8],
         reply: &mut [u8],
-        f: attr_survey::Flags,
         count: &[u8; 256],
         ends: &[u16; 256],
         sizes: &[u8; 256],
     ) -> Moved
-        requires { ⌜ Stands (self .length) (now q) stamp f (now count) (now ends) (now sizes) × (4096 ≤ length (now reply)) ⌝ }
+        requires { ⌜ Stands (self .length) (now q) stamp (now count) (now ends) (now sizes) × (4096 ≤ length (now reply)) ⌝ }
         ensures { λ r. ⌜ r ≡ commitMove self (now (q .entry)) (now (t .entry)) ⌝ }
         ensures { λ r. ⌜ now (t .exit) ≡ commitTable (now (q .entry)) (self .marks) (now (t .entry)) ⌝ }
         ensures { λ r. ⌜ now (reply .exit) ≡ replyAfter (now (secret .entry)) (now (q .entry)) (now (reply .entry)) (r .ending) ⌝ }
@@ -30,6 +29,6 @@ impl Job {
         let marks = self.marks;
         let n = self.length;
         let skew = rule_stamp::skew(stamp, self.clock);
-        crate::done(das_answer::commit(t, &marks, reply, q, n, secret, skew, f, count, ends, sizes))
+        crate::done(das_answer::commit(t, &marks, reply, q, n, secret, skew, count, ends, sizes))
     }
 }

@@ -6,7 +6,6 @@ use mathlib.Core.List.{List}
 use Prim.Native.Nat.{ℕ, _≤_, _<_}
 use borrow.Author.Tests.{lt-ltb, le-ltb}
 use lib.Dec.{ltb}
-use Rattle.attr_survey.specs.declared.Flags.{Flags}
 use Rattle.table_slots.specs.Slot.{slotCount}
 use Rattle.nas_settings.specs.Settings.{settings}
 use Rattle.das_answer.specs.declared.Answer.the-variants as A
@@ -16,7 +15,7 @@ use Rattle.sched_job.specs.declared.Moved.{Moved}
 use Rattle.sched_reread.specs.declared.Again as D
 use Rattle.sched_reread.specs.declared.Again.the-variants.{Gone, Held}
 use Rattle.sched_job.specs.Moves.{going, done, matchJob, commitMove, slotMove, slotTable}
-use Rattle.sched_reread.specs.Again.{Stands, Told}
+use Rattle.sched_reread.specs.Again.{Stands, Shown}
 
 -- ---- by the place
 
@@ -38,24 +37,24 @@ module _ (j : Job) (q t : List ℕ) (k m : ℕ) (is : m ≡ slotCount t) where
 
 -- ---- by the re-reading
 
-module _ (secret name q t : List ℕ) (address k : ℕ) (j : Job) (count ends sizes : List ℕ) (x : D.Again) (told : Told address name (j .length) q count ends sizes x) where
+module _ (secret name q t : List ℕ) (address k : ℕ) (j : Job) (count ends sizes : List ℕ) (x : D.Again) (shown : Shown address name (j .length) q count ends sizes x) where
   pub gone-move : x ≡ Gone → (r : Moved) → r ≡ done (A.Discarded 1) → r ≡ slotMove (settings secret address name) j k q t
-  unfolding slotMove Told
-  gone-move h r e = e ∙ rw ((rw h at told) secret)
+  unfolding slotMove Shown
+  gone-move h r e = e ∙ rw ((rw h at shown) secret)
 
   pub gone-table : x ≡ Gone → t ≡ slotTable (settings secret address name) j k q t
-  unfolding slotTable Told
-  gone-table h = rw ((rw h at told) secret)
+  unfolding slotTable Shown
+  gone-table h = rw ((rw h at shown) secret)
 
-  module _ (f : Flags) (v : ℕ) (h : x ≡ Held f v) where
-    pub held-stands : Stands (j .length) q v f count ends sizes
-    unfolding Told
-    held-stands = (rw h at told) .1
+  module _ (v : ℕ) (h : x ≡ Held v) where
+    pub held-stands : Stands (j .length) q v count ends sizes
+    unfolding Shown
+    held-stands = (rw h at shown) .1
 
     pub held-move : (r : Moved) → r ≡ cond (ltb k (slotCount t)) (going (matchJob j k q t)) (commitMove j q t) → r ≡ slotMove (settings secret address name) j k q t
-    unfolding slotMove Told
-    held-move r e = e ∙ rw ((rw h at told) .0 secret)
+    unfolding slotMove Shown
+    held-move r e = e ∙ rw ((rw h at shown) .0 secret)
 
     pub held-table : (u : List ℕ) → u ≡ cond (ltb k (slotCount t)) t (commitTable q (j .marks) t) → u ≡ slotTable (settings secret address name) j k q t
-    unfolding slotTable Told
-    held-table u e = e ∙ rw ((rw h at told) .0 secret)
+    unfolding slotTable Shown
+    held-table u e = e ∙ rw ((rw h at shown) .0 secret)

@@ -12,7 +12,7 @@ use Rattle.table_slots.specs.Slot.{slotCount}
 use Rattle.nas_settings.specs.Settings.{Settings}
 use Rattle.das_judge.specs.declared.Judged.{Judged}
 use Rattle.das_judge.specs.declared.Judged.the-variants.{Ended, Passed}
-use Rattle.das_judge.specs.Stored.{storeJudged}
+use Rattle.sched_reread.specs.Check.{storeJudged}
 use Rattle.sched_job.specs.declared.Job.{Job}
 use Rattle.sched_job.specs.declared.Stage.the-variants.{Free, Hash, Check, Match}
 use Rattle.sched_job.specs.declared.Moved.{Moved}
@@ -87,7 +87,7 @@ ours-free s j r h e = rw e h
 
 checked-ours : (s : ℕ) (j : Job) (x : Judged) → JobOurs s (checkedAs j x .job)
 checked-ours s j (Ended a) = tt
-checked-ours s j Passed = tt
+checked-ours s j (Passed k) = tt
 
 pub ours-check : (s : ℕ) (g : Settings) (j : Job) (q : List ℕ) (r : Moved) → r ≡ checkMove g j q → JobOurs s (r .job)
 unfolding checkMove

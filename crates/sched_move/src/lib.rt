@@ -24,20 +24,19 @@ fn match_or_commit(
     secret: &[u8],
     t: &mut [u8],
     reply: &mut [u8],
-    f: attr_survey::Flags,
     count: &[u8; 256],
     ends: &[u16; 256],
     sizes: &[u8; 256],
 ) -> Moved
-    requires { ⌜ Stands (j .length) (now q) stamp f (now count) (now ends) (now sizes) × (4096 ≤ length (now reply)) ⌝ }
+    requires { ⌜ Stands (j .length) (now q) stamp (now count) (now ends) (now sizes) × (4096 ≤ length (now reply)) ⌝ }
     ensures { λ r. ⌜ r ≡ cond (ltb k (slotCount (now (t .entry)))) (going (matchJob j k (now (q .entry)) (now (t .entry)))) (commitMove j (now (q .entry)) (now (t .entry))) ⌝ }
     ensures { λ r. ⌜ now (t .exit) ≡ cond (ltb k (slotCount (now (t .entry)))) (now (t .entry)) (commitTable (now (q .entry)) (j .marks) (now (t .entry))) ⌝ }
     ensures { λ r. ⌜ now (reply .exit) ≡ replyAfter (now (secret .entry)) (now (q .entry)) (now (reply .entry)) (r .ending) ⌝ }
 {
     if k < table_slots::slot_count(t) {
-        return sched_job::going(j.match_slot(k, q, t, f, count, ends, sizes));
+        return sched_job::going(j.match_slot(k, q, t, count, ends, sizes));
     }
-    j.commit(stamp, q, secret, t, reply, f, count, ends, sizes)
+    j.commit(stamp, q, secret, t, reply, count, ends, sizes)
 }
 
 // On the store read again: D1 where it no longer shows the request, else Match or Commit.
@@ -62,7 +61,7 @@ fn at_slot(
     let n = j.length;
     match sched_reread::passed(n, q, address, name, &mut count, &mut ends, &mut sizes) {
         Again::Gone => sched_job::done(das_answer::Answer::Discarded(1)),
-        Again::Held(f, stamp) => match_or_commit(
+        Again::Held(stamp) => match_or_commit(
             j,
             k,
             stamp,
@@ -70,7 +69,6 @@ fn at_slot(
             secret,
             t,
             reply,
-            f,
             &count,
             &ends,
             &sizes,

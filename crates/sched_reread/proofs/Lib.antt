@@ -1,2 +1,3 @@
 pub mod Rereading
 pub mod Retold
+pub mod Stored

@@ -12,8 +12,7 @@ use Rattle.attr_walk.specs.declared.Search.{Search}
 use Rattle.attr_walk.specs.declared.Search.the-variants.{At, Missing}
 use Rattle.attr_walk.specs.Attributes.{attributes, any, found, firstOf, onFirst, kindIs}
 use Rattle.attr_walk.proofs.Searches.{only}
-use Rattle.attr_survey.specs.declared.Flags.{Flags}
-use Rattle.attr_survey.specs.Survey.{Surveyed, seenAt, sizeOf}
+use Rattle.attr_survey.specs.Survey.{Kept, seenAt, sizeOf}
 use Rattle.attr_lookup.proofs.Values.{seen-any}
 use Rattle.rule_causes.specs.declared.Cause as C
 use Rattle.rule_causes.specs.declared.Cause.the-variants as K
@@ -64,11 +63,11 @@ and-true : (a : Bool) → a ≡ (a && true)
 and-true true = refl
 and-true false = refl
 
-module _ (s name : List ℕ) (code address : ℕ) (f : Flags) (count ends sizes : List ℕ) (i : Surveyed s code f count ends sizes) where
+module _ (s name : List ℕ) (code address : ℕ) (count ends sizes : List ℕ) (i : Kept s count ends sizes) where
   odd-kept : causeOf code address name s ≡ K.NoCause → (seenAt count 80 && not (eqb (getD sizes 80 0) 18)) ≡ any oddMac (attributes s)
   odd-kept h =
       let ne : _≡_ {A = ℕ} 80 33 → ⊥ = λ e. omega arith in
-      ap (λ (b : Bool). b && not (eqb (getD sizes 80 0) 18)) (seen-any s code f count ends sizes i 80 (lit< tt) ne)
+      ap (λ (b : Bool). b && not (eqb (getD sizes 80 0) 18)) (seen-any s count ends sizes i 80 (lit< tt) ne)
       ∙ odd-first (firstOf (kindIs 80) (attributes s)) (getD sizes 80 0) (i .types 80 (lit< tt) ne .size)
       ∙ sym (only (kindIs 80) (λ a. not (eqb (a .size) 18)) (attributes s) (once code address name s h 80 ne))
 

@@ -10,8 +10,7 @@ use lib.Dec.{eqb}
 use lib.ListN.{length}
 use Rattle.octet_numbers.proofs.Equality.{and-both}
 use Rattle.attr_walk.specs.Attributes.{attributes, any}
-use Rattle.attr_survey.specs.declared.Flags.{Flags}
-use Rattle.attr_survey.specs.Survey.{Surveyed}
+use Rattle.attr_survey.specs.Survey.{Kept}
 use Rattle.rule_stamp.specs.declared.Stamp.{Stamp}
 use Rattle.rule_stamp.specs.declared.Stamp.the-variants.{Usable, Unusable}
 use Rattle.rule_stamp.specs.Stamp.{stampOf}
@@ -24,7 +23,7 @@ use Rattle.packet_form.specs.Discards.{formOf, Sized}
 use Rattle.packet_form.proofs.Forms.{good-sized, form-good}
 use Rattle.sched_reread.specs.Reread.{holds, oddMac, holdsPassed}
 use Rattle.sched_reread.specs.declared.Again.the-variants.{Gone, Held}
-use Rattle.sched_reread.specs.Again.{Stands, Told}
+use Rattle.sched_reread.specs.Again.{Stands, Shown}
 use Rattle.sched_reread.proofs.Rereading.{none-applies}
 
 not-true : (b : Bool) → not b ≡ true → b ≡ false
@@ -53,19 +52,19 @@ module _ (n : ℕ) (q : List ℕ) (b : Bool) (is : b ≡ holds n q) (h : b ≡ t
   pub held-long : 20 ≤ length q
   held-long = omega (arith, held-low, held-given)
 
-pub gone-passed : (name q count ends sizes : List ℕ) (address n : ℕ) (b : Bool) → b ≡ holds n q → b ≡ false → Told address name n q count ends sizes Gone
-unfolding holdsPassed Told
+pub gone-passed : (name q count ends sizes : List ℕ) (address n : ℕ) (b : Bool) → b ≡ holds n q → b ≡ false → Shown address name n q count ends sizes Gone
+unfolding holdsPassed Shown
 gone-passed name q count ends sizes address n b is h = λ secret. rw (← is, h)
 
 -- ---- the rest
 
-module _ (name s q : List ℕ) (address n : ℕ) (f : Flags) (count ends sizes : List ℕ) (sized : Sized q n) (form : formOf q ≡ 0) (area : s ≡ areaOf q) (x : Stamp) (stamp : x ≡ stampOf s) where
+module _ (name s q : List ℕ) (address n : ℕ) (count ends sizes : List ℕ) (sized : Sized q n) (form : formOf q ≡ 0) (area : s ≡ areaOf q) (x : Stamp) (stamp : x ≡ stampOf s) where
   held : holds n q ≡ true
   unfolding holds
   held = rw (form, eq-eqb _ _ (sym (sized .is)))
 
-  pub gone-stamp : x ≡ Unusable → Told address name n q count ends sizes Gone
-  unfolding holdsPassed Told
+  pub gone-stamp : x ≡ Unusable → Shown address name n q count ends sizes Gone
+  unfolding holdsPassed Shown
   gone-stamp h = λ secret. rw (held, ← area, ← stamp, h)
 
   module _ (v : ℕ) (usable : x ≡ Usable v) (b : Bool) (is : b ≡ (not (any oddMac (attributes s)) && not (applies (causeOf (codeOf q) address name s)))) where
@@ -73,24 +72,24 @@ module _ (name s q : List ℕ) (address n : ℕ) (f : Flags) (count ends sizes :
     unfolding holdsPassed
     passed-by secret = rw (held, ← area, ← stamp, usable, ← is)
 
-    pub gone-objected : b ≡ false → Told address name n q count ends sizes Gone
-    unfolding Told
+    pub gone-objected : b ≡ false → Shown address name n q count ends sizes Gone
+    unfolding Shown
     gone-objected h = λ secret. passed-by secret ∙ h
 
-    stands : Surveyed s (codeOf q) f count ends sizes → b ≡ true → Stands n q v f count ends sizes
+    stands : Kept s count ends sizes → b ≡ true → Stands n q v count ends sizes
     stands i h =
         let two = and-both _ _ (sym is ∙ h) in
         let none : causeOf (codeOf q) address name s ≡ NoCause = none-applies _ (not-true _ (two .1)) in
         record {
           sized = sized;
           form = form;
-          surveyed = rw (← area) i;
+          kept = rw (← area) i;
           stamp = rw (← area) (sym stamp ∙ usable);
           plain = rw (← area) (not-true _ (two .0));
           fits = rw (← area) (misfit (codeOf q) address name s none);
           once = rw (← area) (repeated (codeOf q) address name s none);
         }
 
-    pub held-told : Surveyed s (codeOf q) f count ends sizes → b ≡ true → Told address name n q count ends sizes (Held f v)
-    unfolding Told
+    pub held-told : Kept s count ends sizes → b ≡ true → Shown address name n q count ends sizes (Held v)
+    unfolding Shown
     held-told i h = (λ secret. passed-by secret ∙ h, stands i h)

@@ -1,20 +1,22 @@
 // A job's part of the store, read again before Check, Match and Commit.
+pub mod check; // check.rt: Check
+
 ghost use mathlib.Core.Path.{_≡_};
 ghost use mathlib.Core.Bool.{not, _&&_};
 ghost use lib.Dec.{eqb};
 ghost use lib.ListN.{getD};
 ghost use Rattle.attr_walk.specs.Attributes.{attributes, any};
-ghost use Rattle.attr_survey.specs.Survey.{Surveyed, seenAt, zeros};
+ghost use Rattle.attr_survey.specs.Survey.{Flagged, Kept, seenAt, zeros};
 ghost use Rattle.rule_causes.specs.Causes.{applies, causeOf};
 ghost use Rattle.packet_form.specs.Packet.{codeOf, areaOf};
 ghost use Rattle.packet_form.specs.Discards.{formOf, Sized};
 ghost use Rattle.sched_reread.specs.Reread.{holds, oddMac};
-ghost use Rattle.sched_reread.specs.Again.{Told};
+ghost use Rattle.sched_reread.specs.Again.{Shown};
 
-// The store no longer shows the request, or shows it with these flags and this stamp.
+// The store no longer shows the request, or shows it with this stamp.
 pub enum Again {
     Gone,
-    Held(attr_survey::Flags, u32),
+    Held(u32),
 }
 
 // None of D1 to D3 applies, and Length is the kept one.
@@ -48,7 +50,7 @@ fn unobjected(
     ends: &[u16; 256],
     sizes: &[u8; 256],
 ) -> bool
-    requires { ⌜ Surveyed (now s) code f (now count) (now ends) (now sizes) ⌝ }
+    requires { ⌜ Flagged (now s) code f × Kept (now s) (now count) (now ends) (now sizes) ⌝ }
     ensures { λ r. ⌜ r ≡ not (any oddMac (attributes (now (s .entry)))) && not (applies (causeOf code address (now (name .entry)) (now (s .entry)))) ⌝ }
 {
     let cause = rule_causes::first_cause(s, code, address, name, f, count, ends, sizes);
@@ -71,14 +73,14 @@ fn judged(
     sizes: &[u8; 256],
 ) -> Again
     requires { ⌜ Sized (now q) n × (formOf (now q) ≡ 0) × (now s ≡ areaOf (now q)) ⌝ }
-    requires { ⌜ Surveyed (now s) (codeOf (now q)) f (now count) (now ends) (now sizes) ⌝ }
-    ensures { λ r. ⌜ Told address (now (name .entry)) n (now (q .entry)) (now (count .entry)) (now (ends .entry)) (now (sizes .entry)) r ⌝ }
+    requires { ⌜ Flagged (now s) (codeOf (now q)) f × Kept (now s) (now count) (now ends) (now sizes) ⌝ }
+    ensures { λ r. ⌜ Shown address (now (name .entry)) n (now (q .entry)) (now (count .entry)) (now (ends .entry)) (now (sizes .entry)) r ⌝ }
 {
-    match rule_stamp::stamp_of(s, q[0], f, count, ends, sizes) {
+    match rule_stamp::stamp_of(s, count, ends, sizes) {
         rule_stamp::Stamp::Unusable => Again::Gone,
         rule_stamp::Stamp::Usable(stamp) => {
             if unobjected(s, q[0], address, name, f, count, ends, sizes) {
-                return Again::Held(f, stamp);
+                return Again::Held(stamp);
             }
             Again::Gone
         }
@@ -97,7 +99,7 @@ fn scanned(
 ) -> Again
     requires { ⌜ Sized (now q) n × (formOf (now q) ≡ 0) ⌝ }
     requires { ⌜ (now count ≡ zeros) × (now ends ≡ zeros) × (now sizes ≡ zeros) ⌝ }
-    ensures { λ r. ⌜ Told address (now (name .entry)) n (now (q .entry)) (now (count .exit)) (now (ends .exit)) (now (sizes .exit)) r ⌝ }
+    ensures { λ r. ⌜ Shown address (now (name .entry)) n (now (q .entry)) (now (count .exit)) (now (ends .exit)) (now (sizes .exit)) r ⌝ }
 {
     let s = octet_runs::slice(q, 20, n - 20);
     let f = attr_survey::survey(s, q[0], &mut *count, &mut *ends, &mut *sizes);
@@ -115,7 +117,7 @@ pub fn passed(
     sizes: &mut [u8; 256],
 ) -> Again
     requires { ⌜ (now count ≡ zeros) × (now ends ≡ zeros) × (now sizes ≡ zeros) ⌝ }
-    ensures { λ r. ⌜ Told address (now (name .entry)) n (now (q .entry)) (now (count .exit)) (now (ends .exit)) (now (sizes .exit)) r ⌝ }
+    ensures { λ r. ⌜ Shown address (now (name .entry)) n (now (q .entry)) (now (count .exit)) (now (ends .exit)) (now (sizes .exit)) r ⌝ }
 {
     if holds(n, q) {
         return scanned(n, q, address, name, count, ends, sizes);

@@ -31,7 +31,7 @@ use Rattle.das_answer.specs.declared.Answer.the-variants as A
 use Rattle.das_answer.specs.Commit.{countAnswer, commitAnswer}
 use Rattle.das_judge.specs.declared.Judged.the-variants.{Ended}
 use Rattle.das_judge.specs.Judged.{judgedAs}
-use Rattle.das_judge.specs.Stored.{storeJudged}
+use Rattle.sched_reread.specs.Check.{storeJudged}
 use Rattle.sched_job.specs.declared.Job as B
 use Rattle.sched_job.specs.declared.Stage as S
 use Rattle.sched_job.specs.declared.Stage.the-variants.{Free, Hash, Check, Match}

@@ -9,7 +9,6 @@ use borrow.Author.Tests.{eqb-false, ne-eqb}
 use lib.Dec.{eqb, ltb}
 use lib.ListN.{length}
 use Rattle.octet_numbers.specs.Runs.{write, member}
-
 use Rattle.nas_settings.specs.Settings.{badSecret}
 use Rattle.dac_write.specs.declared.Written as W
 use Rattle.dac_write.specs.declared.Written.the-variants.{Done, NotWritten}

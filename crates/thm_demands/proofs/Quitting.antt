@@ -24,7 +24,7 @@ use Rattle.packet_words.specs.Words.{wordsSigned}
 use Rattle.das_judge.specs.declared.Judged as G
 use Rattle.das_judge.specs.declared.Judged.the-variants.{Ended, Passed}
 use Rattle.das_judge.specs.Judged.{judgedAs}
-use Rattle.das_judge.specs.Stored.{storeJudged}
+use Rattle.sched_reread.specs.Check.{storeJudged}
 use Rattle.sched_job.specs.declared.Job as B
 use Rattle.sched_job.specs.declared.Stage as S
 use Rattle.sched_job.specs.declared.Stage.the-variants as P
@@ -62,7 +62,7 @@ Judges (Ended (A.Discarded d)) = member d (1 ∷ 4 ∷ 5 ∷ 6 ∷ []) ≡ true
 Judges (Ended (A.Stale k)) = Unit {0}
 Judges (Ended (A.Nak c k n)) = Unit {0}
 Judges (Ended (A.Ack m k n)) = Unit {0}
-Judges Passed = Unit {0}
+Judges (Passed k) = Unit {0}
 
 verdict-judges : (q : List ℕ) (x : R.Verdict) → Among (4 ∷ 5 ∷ 6 ∷ []) x → Judges (judgedAs q x)
 verdict-judges q (J.Discarded d) h = or-right (eqb d 1) (member d (4 ∷ 5 ∷ 6 ∷ [])) h
@@ -86,7 +86,7 @@ judged-quits j t y (Ended (A.Discarded d)) e h = (h, e, refl, refl)
 judged-quits j t y (Ended (A.Stale k)) e h = (e, refl, refl)
 judged-quits j t y (Ended (A.Nak c k n)) e h = tt
 judged-quits j t y (Ended (A.Ack m k n)) e h = tt
-judged-quits j t y Passed e h = tt
+judged-quits j t y (Passed k) e h = tt
 
 check-quits : (g : Settings) (j : B.Job) (q t : List ℕ) → Quit (λ (a : D.Answer). ComesTo g j q a P.Check) t t (checkMove g j q)
 unfolding checkMove

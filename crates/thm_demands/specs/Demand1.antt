@@ -29,7 +29,7 @@ use Rattle.dac_write.specs.Writer.{Draft, writeRefusal, writeAnswer, writeOutpu
 use Rattle.dac_check.specs.ReplyCheck.{checkAnswer}
 use Rattle.sched_reread.specs.Reread.{holdsPassed}
 use Rattle.das_judge.specs.declared.Judged.the-variants.{Ended}
-use Rattle.das_judge.specs.Stored.{storeJudged}
+use Rattle.sched_reread.specs.Check.{storeJudged}
 use Rattle.sched_job.specs.declared.Job as B
 use Rattle.sched_job.specs.declared.Stage as S
 use Rattle.sched_job.specs.declared.Stage.the-variants.{Free, Hash, Check, Match}

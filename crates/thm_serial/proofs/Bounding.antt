@@ -16,7 +16,7 @@ use Rattle.nas_settings.specs.Settings.{Settings}
 use Rattle.das_answer.specs.declared.Answer.the-variants as A
 use Rattle.das_judge.specs.declared.Judged.{Judged}
 use Rattle.das_judge.specs.declared.Judged.the-variants as G
-use Rattle.das_judge.specs.Stored.{storeJudged}
+use Rattle.sched_reread.specs.Check.{storeJudged}
 use Rattle.sched_job.specs.declared.Job as B
 use Rattle.sched_job.specs.declared.Stage as S
 use Rattle.sched_job.specs.declared.Stage.the-variants.{Free, Hash, Check, Match}
@@ -49,7 +49,7 @@ hash-less false k n e h = omega arith
 
 checked-less : (x : Judged) (j : B.Job) → Less Check (checkedAs j x)
 checked-less (G.Ended a) j = tt
-checked-less G.Passed j = omega arith
+checked-less (G.Passed k) j = omega arith
 
 slot-less : (f e : Bool) (k n : ℕ) (j : B.Job) (q t : List ℕ) → ltb k n ≡ e → n ≤ 64
     → Less (Match k) (cond f (cond e (going (matchJob j k q t)) (commitMove j q t)) (done (A.Discarded 1)))

@@ -26,7 +26,7 @@ use Rattle.das_reply_parts.specs.Reply.{replyLength}
 use Rattle.das_answer.specs.declared.Answer.the-variants as A
 use Rattle.das_handle.specs.Refusals.{refusalOf}
 use Rattle.das_judge.specs.Judged.{judgedAs}
-use Rattle.das_judge.specs.Stored.{storeJudged}
+use Rattle.sched_reread.specs.Check.{storeJudged}
 use Rattle.sched_job.specs.declared.Job as B
 use Rattle.sched_job.specs.declared.Stage.the-variants.{Hash, Check}
 use Rattle.packet_words.specs.Words.{wordsOf, hashState, wordsSigned}

@@ -16,7 +16,7 @@ use Rattle.packet_form.specs.Discards.{formOf}
 use Rattle.das_answer.specs.declared.Answer.the-variants as A
 use Rattle.das_judge.specs.declared.Judged.{Judged}
 use Rattle.das_judge.specs.declared.Judged.the-variants.{Ended, Passed}
-use Rattle.das_judge.specs.Stored.{storeJudged}
+use Rattle.sched_reread.specs.Check.{storeJudged}
 use Rattle.sched_job.specs.declared.Job as B
 use Rattle.sched_job.specs.declared.Stage as S
 use Rattle.sched_job.specs.declared.Stage.the-variants.{Free, Hash, Check, Match}
@@ -34,7 +34,7 @@ hash-placed false k n l e h = tt
 
 checked-placed : (n : ℕ) (x : Judged) (j : B.Job) → JobOurs n (checkedAs j x .job)
 checked-placed n (Ended a) j = tt
-checked-placed n Passed j = tt
+checked-placed n (Passed k) j = tt
 
 slot-placed : (f e : Bool) (n k : ℕ) (j : B.Job) (q t : List ℕ) → JobOurs n (cond f (cond e (going (matchJob j k q t)) (commitMove j q t)) (done (A.Discarded 1)) .job)
 unfolding matchJob commitMove

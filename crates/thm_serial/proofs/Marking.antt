@@ -7,28 +7,22 @@ use mathlib.Core.List.{List}
 use Prim.Native.Nat.{ℕ, suc, _≤_}
 use native.Mathlib.Numerals.{add-one}
 use native.Mathlib.Omega.{arith}
-use borrow.Author.Tests.{ltb-true, ltb-false, eqb-true}
-use lib.Dec.{eqb, ltb}
-use lib.IntN.{ℤ}
+use borrow.Author.Tests.{ltb-true, ltb-false}
+use lib.Dec.{ltb}
 use lib.ListN.{set}
 use Rattle.table_slots.specs.Slot.{slotCount}
 use Rattle.table_criteria.specs.Marks.{marksAfter}
-use Rattle.table_change.specs.Change.{countMarked}
 use Rattle.rule_stamp.specs.Stamp.{stampOf}
-use Rattle.rule_causes.specs.declared.Cause.the-variants.{SessionNotFound, NoCause}
 use Rattle.rule_verdict.specs.declared.Verdict.the-variants as J
-use Rattle.packet_form.specs.Packet.{codeOf, lengthOf, areaOf}
+use Rattle.packet_form.specs.Packet.{lengthOf, areaOf}
 use Rattle.nas_settings.specs.Settings.{Settings}
 use Rattle.packet_form.specs.Discards.{formOf}
 use Rattle.rule_verdict.specs.Discards.{signedBy}
-use Rattle.das_reply_parts.specs.Reply.{replyLength}
-use Rattle.das_effects.specs.Matching.{matchesIn, matchCount}
-use Rattle.das_effects.specs.Changes.{changeOf, changeMatching}
-use Rattle.das_effects.proofs.Marked.{counted-matching, changed-matching, none-marked}
-use Rattle.das_answer.specs.declared.Answer.the-variants as A
-use Rattle.das_answer.specs.Commit.{countAnswer, commitAnswer, commitTable}
+use Rattle.das_effects.specs.Matching.{matchesIn}
+use Rattle.das_answer.specs.Commit.{commitAnswer, commitTable}
 use Rattle.das_handle.specs.Refusals.{refusalOf}
 use Rattle.das_handle.specs.Handle.{tableAs}
+use Rattle.das_handle.proofs.Walked.{commit-answer, commit-table}
 use Rattle.sched_job.specs.declared.Job as B
 use Rattle.sched_reread.specs.Reread.{holdsPassed}
 use Rattle.sched_job.specs.Moves.{going, matchJob, skewAt, commitMove, slotMove, slotTable}
@@ -36,25 +30,6 @@ use Rattle.thm_serial.proofs.Same.{SamePacket}
 use Rattle.thm_serial.proofs.Judging.{answer-same, table-same}
 use Rattle.thm_serial.proofs.Passing.{Passing, passing-holds}
 use Rattle.thm_serial.proofs.Holding.{Right, ends-with, handled-as}
-
--- ---- the marks after all slots
-
-module _ (p t m : List ℕ) (walked : m ≡ marksAfter (matchesIn (areaOf p) t) (slotCount t)) where
-  pub commit-answer : (skew : ℤ) → commitAnswer p m t skew ≡ countAnswer p (matchCount (areaOf p) t) skew
-  unfolding commitAnswer
-  commit-answer skew = rw (walked, counted-matching (areaOf p) t)
-
-  -- where none matches nothing is changed
-  by-count : (f : Bool) (n x y : ℕ) (skew : ℤ) → eqb n 0 ≡ f → countMarked m (slotCount t) t ≡ n
-      → commitTable p m t ≡ tableAs p t (cond f (A.Nak SessionNotFound skew x) (A.Ack n skew y))
-  unfolding commitTable changeMatching
-  by-count true n x y skew h e = none-marked (areaOf p) (changeOf (codeOf p) (areaOf p)) m (slotCount t) t (e ∙ eqb-true n 0 h)
-  by-count false n x y skew h e = rw walked (changed-matching (areaOf p) t (changeOf (codeOf p) (areaOf p)))
-
-  pub commit-table : (skew : ℤ) → commitTable p m t ≡ tableAs p t (commitAnswer p m t skew)
-  unfolding commitAnswer countAnswer
-  commit-table skew =
-      by-count (eqb (countMarked m (slotCount t) t) 0) (countMarked m (slotCount t) t) (replyLength p SessionNotFound) (replyLength p NoCause) skew refl refl
 
 module _ (g : Settings) (p : List ℕ) (clock : ℕ) (q t b : List ℕ) (open-to : refusalOf g t b ≡ 0) (good : formOf p ≡ 0) (same : SamePacket p q)
     (passed : Passing g (signedBy (g .secret) p) p clock) where

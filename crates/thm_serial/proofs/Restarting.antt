@@ -17,7 +17,7 @@ use Rattle.nas_settings.specs.Settings.{Settings}
 use Rattle.sched_reread.specs.Reread.{holdsPassed}
 use Rattle.das_judge.specs.declared.Judged as G
 use Rattle.das_judge.specs.declared.Judged.the-variants as J
-use Rattle.das_judge.specs.Stored.{storeJudged}
+use Rattle.sched_reread.specs.Check.{storeJudged}
 use Rattle.das_answer.specs.declared.Answer.the-variants as A
 use Rattle.sched_job.specs.declared.Job as B
 use Rattle.sched_job.specs.declared.Stage as S
@@ -85,7 +85,7 @@ Freed (K.Done a) x = x ≡ freeJob
 
 check-freed : (j : B.Job) (v : G.Judged) → Freed (checkedAs j v .ending) (checkedAs j v .job)
 check-freed j (J.Ended a) = refl
-check-freed j J.Passed = tt
+check-freed j (J.Passed k) = tt
 
 slot-freed : (j : B.Job) (k : ℕ) (q t : List ℕ) (x y : Bool)
     → Freed (cond x (cond y (going (matchJob j k q t)) (commitMove j q t)) (done (A.Discarded 1)) .ending) (cond x (cond y (going (matchJob j k q t)) (commitMove j q t)) (done (A.Discarded 1)) .job)

@@ -5,7 +5,7 @@ use borrow.Author.Needs.{needs}
 use Rattle.attr_survey.specs.Survey.{zeros}
 use Rattle.packet_form.proofs.Forms.{judged-good}
 use Rattle.packet_form.proofs.Areas.{area-of, area-short}
-use Rattle.rule_verdict.proofs.Verdicts.{surveyed-of}
+use Rattle.attr_survey.proofs.Areas.{kept-of}
 use Rattle.dac_check.proofs.Failures.{first-fails, form-none, form-long, length-fails, attributes-fail, reply-good}
 use Rattle.dac_check.proofs.failure.Statement.{statement}
 use Rattle.dac_check.proofs.failure.Tie as tie
@@ -24,7 +24,7 @@ unfolding zeros
 survey-requires c κs = (search (needs, area-short), refl, refl, refl)
 
 mismatch-requires : tie.Need-mismatch-requires
-mismatch-requires c κs = ((search (needs, form-none), search (needs, form-long), search (needs, reply-good), search needs), surveyed-of _ _ _ _ _ _ _ (area-of _ _ _ (c .before .before .before .before .before .before .before .before .before .slice .ensures) (c .before .before .before .before .before .before .before .before .before .before .sized .ensures)) (c .before .before .before .before .survey .ensures))
+mismatch-requires c κs = ((search (needs, form-none), search (needs, form-long), search (needs, reply-good), search needs), kept-of _ _ (area-of _ _ _ (c .before .before .before .before .before .before .before .before .before .slice .ensures) (c .before .before .before .before .before .before .before .before .before .before .sized .ensures)) _ _ _ (c .before .before .before .before .survey .ensures .1))
 
 returns-4 : tie.Need-returns-4
 returns-4 c = search (needs, attributes-fail)

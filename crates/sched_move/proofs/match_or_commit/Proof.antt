@@ -2,13 +2,13 @@
 -- Assumes nothing.
 use borrow.Author.Needs.{needs}
 use Rattle.sched_job.proofs.Checked.{going-reply}
-use Rattle.sched_job.proofs.Committed.{stands-sized, stands-surveyed, stands-once}
+use Rattle.sched_job.proofs.Committed.{stands-sized, stands-kept, stands-once}
 use Rattle.sched_move.proofs.Slotted.{slot-here, match-here, match-table, commit-here, commit-table}
 use Rattle.sched_move.proofs.match_or_commit.Statement.{statement}
 use Rattle.sched_move.proofs.match_or_commit.Tie as tie
 
 match-slot-requires : tie.Need-match-slot-requires
-match-slot-requires c κs = ((search (needs, slot-here), search (needs, stands-sized), search (needs, stands-once)), search (needs, stands-surveyed))
+match-slot-requires c κs = ((search (needs, slot-here), search (needs, stands-sized), search (needs, stands-once)), search (needs, stands-kept))
 
 returns : tie.Need-returns
 returns c = (search (needs, match-here), (search (needs, match-table), search (needs, going-reply)))

@@ -9,7 +9,7 @@ survey-requires : tie.Need-survey-requires
 survey-requires c κs = (search (needs, area-short), search needs, search needs, search needs)
 
 judged-requires : tie.Need-judged-requires
-judged-requires c κs = ((search needs, search needs, search (needs, area-of)), search needs)
+judged-requires c κs = ((search needs, search needs, search (needs, area-of)), (search needs, search needs))
 
 pub scanned-spec : {M : Type 1} → statement M
 scanned-spec =

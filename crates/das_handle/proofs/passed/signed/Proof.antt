@@ -1,39 +1,27 @@
--- `das_handle::passed::signed` meets its contract: one pass over the attributes, and the verdict goes by what it tells.
+-- `das_handle::passed::signed` meets its contract: the judgement first, then what follows from it.
 -- Assumes nothing.
 use borrow.Author.Needs.{needs}
 use mathlib.Core.Path.{refl}
 use Rattle.attr_survey.specs.Survey.{zeros}
-use Rattle.packet_form.proofs.Areas.{area-of, area-short}
-use Rattle.rule_verdict.proofs.Verdicts.{surveyed-of}
+use Rattle.das_handle.proofs.Arms.{signed-answer, signed-table, signed-reply, judged-commits, judged-room}
 use Rattle.das_handle.proofs.passed.signed.Statement.{statement}
 use Rattle.das_handle.proofs.passed.signed.Tie as tie
 
-survey-requires : tie.Need-survey-requires
+judge-requires : tie.Need-judge-requires
 unfolding zeros
-survey-requires c κs = (search (needs, area-short), refl, refl, refl)
-
-check-requires : tie.Need-check-requires
-check-requires c κs = (search needs, search (needs, surveyed-of, area-of))
+judge-requires c κs = ((search needs, search needs, search needs), (refl, refl, refl))
 
 answered-requires : tie.Need-answered-requires
-answered-requires c κs =
-    let survey = c .before .before .before .before .before .before .before .before .before in
-    let slice = survey .before .before .before .before .before in
-    let start = slice .before .before .before .before .before .before in
-    ((start .pre .0, start .pre .1, start .pre .2), (surveyed-of _ _ _ _ _ _ _ (area-of _ _ _ (slice .slice .ensures) (start .pre .0)) (survey .survey .ensures), search needs))
+answered-requires c κs = ((search needs, search needs, search (needs, judged-room)), (search needs, search (needs, judged-commits)))
 
 returns : tie.Need-returns
-returns c = (search needs, (search needs, search needs))
+returns c = (search (needs, signed-answer), (search (needs, signed-table), search (needs, signed-reply)))
 
 pub signed-spec : {M : Type 1} → statement M
 signed-spec =
     tie.close
     (tie.spec
-    (λ c. search needs)
-    (λ c κs. search needs)
-    (λ c. search needs)
-    survey-requires
-    check-requires
+    judge-requires
     answered-requires
     (λ c. search needs)
     (λ c. search needs)

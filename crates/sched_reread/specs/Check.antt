@@ -6,19 +6,13 @@ use Prim.Native.Nat.{ℕ}
 use Rattle.nas_settings.specs.Settings.{Settings}
 use Rattle.rule_verdict.specs.Verdict.{checkVerdict}
 use Rattle.packet_words.specs.Words.{wordsSigned}
 use Rattle.sched_reread.specs.Reread.{holds}
 use Rattle.das_answer.specs.declared.Answer.the-variants as A
-use Rattle.das_answer.specs.Replies.{replyAs}
 use Rattle.das_judge.specs.declared.Judged as D
-use Rattle.das_judge.specs.declared.Judged.the-variants.{Ended, Passed}
+use Rattle.das_judge.specs.declared.Judged.the-variants.{Ended}
 use Rattle.das_judge.specs.Judged.{judgedAs}
 
 -- by the words, the Length n and the clock as kept; where the store q no longer holds the request, D1
 unfoldable pub storeJudged : Settings → List ℕ → ℕ → ℕ → List ℕ → D.Judged
 storeJudged g words n clock q =
     cond (holds n q) (judgedAs q (checkVerdict g (wordsSigned words q) q clock)) (Ended (A.Discarded 1))
-
--- for inner contracts and proofs: the reply buffer b after it; of a step that is `replyAfter` (sched_job/specs/Moves.antt)
-abbrev pub replyJudged : List ℕ → List ℕ → List ℕ → D.Judged → List ℕ
-replyJudged secret p b (Ended a) = replyAs secret p b a
-replyJudged secret p b Passed = b

@@ -7,12 +7,12 @@ use Prim.Native.Nat.{ℕ}
 use Rattle.nas_settings.specs.Settings.{Settings}
 use Rattle.rule_verdict.specs.Verdict.{checkVerdict}
 use Rattle.packet_words.specs.Words.{wordsSigned}
 use Rattle.sched_reread.specs.Reread.{holds}
 use Rattle.das_answer.specs.declared.Answer.the-variants as A
 use Rattle.das_judge.specs.declared.Judged.{Judged}
 use Rattle.das_judge.specs.declared.Judged.the-variants.{Ended}
 use Rattle.das_judge.specs.Judged.{judgedAs}
-use Rattle.das_judge.specs.Stored.{storeJudged}
+use Rattle.sched_reread.specs.Check.{storeJudged}
 
 module _ (g : Settings) (words : List ℕ) (n clock : ℕ) (q : List ℕ) (b : Bool) (is : b ≡ holds n q) where
   pub store-held : b ≡ true → (d : Bool) → d ≡ wordsSigned words q → (r : Judged) → r ≡ judgedAs q (checkVerdict g d q clock) → r ≡ storeJudged g words n clock q
