@@ -9,3 +9,7 @@ pub mod Lawful
 pub mod Reading
 pub mod Crossing
 pub mod Programs
+pub mod Prefixes
+pub mod PaddedRequests
+pub mod PaddedReplies
+pub mod Buffers

@@ -87,7 +87,7 @@ module _ (g : Settings) (t b p : List ℕ) (clock : ℕ) where
 
   -- ---- what a reply carries
 
-  unrefused : silent (handleAnswer g t b p clock) ≡ false → refusalOf g t b ≡ 0
+  pub unrefused : silent (handleAnswer g t b p clock) ≡ false → refusalOf g t b ≡ 0
   unfolding handleAnswer
   unrefused h = eqb-true _ 0 (not-refused (answerOf p t (verdictOf g (signedBy (g .secret) p) p clock)) (refusalOf g t b) (eqb (refusalOf g t b) 0) h)
 
