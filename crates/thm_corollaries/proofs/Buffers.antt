@@ -41,8 +41,8 @@ use Rattle.thm_corollaries.specs.Padding.{unpadded, Padding}
 use Rattle.thm_corollaries.proofs.Prefixes.{same-unpadded, cut}
 use Rattle.thm_corollaries.proofs.PaddedRequests as Q
 use Rattle.thm_corollaries.proofs.PaddedReplies.{request-checked, reply-checked}
-use Rattle.thm_corollaries.proofs.Finishing.{step-handles}
-use Rattle.thm_corollaries.proofs.Answering.{answer-passes}
+use Rattle.thm_corollaries.proofs.FinishedSteps.{step-handles}
+use Rattle.thm_corollaries.proofs.HandledReplies.{answer-passes}
 
 -- a buffer b with a packet r of Length bytes at its start
 at-start : (b r : List ℕ) → badLength r ≡ false → lengthOf r ≡ length r → length r ≤ length b → unpadded (write b 0 r) ≡ r

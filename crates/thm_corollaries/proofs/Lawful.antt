@@ -2,12 +2,12 @@
 -- Assumes nothing.
 use mathlib.Core.Bool.{false≢true}
 use Rattle.thm_serial.proofs.Lone as L
-use Rattle.thm_serial.proofs.Writing as W
-use Rattle.thm_serial.proofs.Copying as C
+use Rattle.thm_serial.proofs.StepWrites as W
+use Rattle.thm_serial.proofs.CopiedBytes as C
 use Rattle.thm_serial.proofs.Others as O
-use Rattle.thm_serial.proofs.Restarting as R
+use Rattle.thm_serial.proofs.Restarts as R
 use Rattle.thm_corollaries.specs.Laws.{Laws}
-use Rattle.thm_corollaries.proofs.Rereading.{discards-late}
+use Rattle.thm_corollaries.proofs.LateDiscards.{discards-late}
 
 pub laws : Laws
 laws =

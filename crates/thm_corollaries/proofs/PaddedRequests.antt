@@ -27,7 +27,7 @@ use Rattle.das_handle.specs.Handle.{answerOf, tableAs, handleAnswer, handleTabl
 use Rattle.sched_state.specs.declared.Scheduler as S
 use Rattle.sched_state.specs.Calls.{openCalled, openStore}
 use Rattle.thm_serial.proofs.Same.{SamePacket}
-use Rattle.thm_serial.proofs.Judging.{check-same, length-same, buffer-same}
+use Rattle.thm_serial.proofs.SameAnswers.{check-same, length-same, buffer-same}
 use Rattle.thm_demands.proofs.Replied.{formed}
 use Rattle.thm_demands.proofs.Second.{demand2}
 use Rattle.thm_corollaries.specs.Padding.{unpadded}

@@ -9,10 +9,10 @@ use Rattle.sched_state.specs.Scheduler.{settingsOf}
 use Rattle.sched_state.specs.Runs.{Call, World, run}
 use Rattle.thm_serial.specs.Demand3.{world, serially, New}
 use Rattle.thm_corollaries.specs.Corollaries.{After, Corollaries}
-use Rattle.thm_corollaries.proofs.Chaining.{chained}
-use Rattle.thm_corollaries.proofs.Finishing.{step-handles}
-use Rattle.thm_corollaries.proofs.Answering.{answer-passes}
-use Rattle.thm_corollaries.proofs.Accepting.{opens, sixth}
+use Rattle.thm_corollaries.proofs.NextState.{chained}
+use Rattle.thm_corollaries.proofs.FinishedSteps.{step-handles}
+use Rattle.thm_corollaries.proofs.HandledReplies.{answer-passes}
+use Rattle.thm_corollaries.proofs.WriterRequests.{opens, sixth}
 
 module _ (s : D.Scheduler) (new : New s) (cs : List Call) (t store : List ℕ) where
   abbrev left : World

@@ -27,7 +27,7 @@ use Rattle.das_handle.specs.Refusals.{refusalOf}
 use Rattle.das_handle.specs.Handle.{answerOf, tableAs, handleAnswer, handleTable, handleReply}
 use Rattle.thm_demands.specs.Demand1.{Handling}
 use Rattle.thm_demands.proofs.Cascades.{none-of, one-more}
-use Rattle.thm_demands.proofs.Discarding.{Among, verdict-among}
+use Rattle.thm_demands.proofs.DiscardNumbers.{Among, verdict-among}
 
 abbrev isRefused : D.Answer → Bool
 isRefused (A.Refused n) = true

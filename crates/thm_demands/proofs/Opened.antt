@@ -17,8 +17,8 @@ use Rattle.sched_state.specs.Scheduler.{openAt, lowestFree}
 use Rattle.sched_state.specs.Refusals.{openRefusal}
 use Rattle.sched_state.specs.Calls.{called, openCalled, openStore}
 use Rattle.thm_demands.proofs.Cascades.{none-of, one-more}
-use Rattle.thm_demands.proofs.Discarding.{form-one}
-use Rattle.thm_demands.proofs.Telling.{WhenRefused, WhenDiscarded}
+use Rattle.thm_demands.proofs.DiscardNumbers.{form-one}
+use Rattle.thm_demands.proofs.AnswerKinds.{WhenRefused, WhenDiscarded}
 
 refusal-one : (f : ℕ → Bool) (size : ℕ) → (openRefusal f size ≡ 0 → ⊥) → member (openRefusal f size) (5 ∷ 6 ∷ []) ≡ true
 unfolding openRefusal

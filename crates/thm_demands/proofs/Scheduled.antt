@@ -18,7 +18,7 @@ use Rattle.sched_state.specs.Calls.{called, dropCalled}
 use Rattle.das_answer.specs.declared.Answer.the-variants as A
 use Rattle.sched_job.specs.Job.{freeJob}
 use Rattle.thm_demands.specs.Demand1.{Scheduling}
-use Rattle.thm_demands.proofs.Telling.{WhenRefused}
+use Rattle.thm_demands.proofs.AnswerKinds.{WhenRefused}
 use Rattle.thm_demands.proofs.Stepped.{step-refused, step-refusals, step-comes, step-answers}
 use Rattle.thm_demands.proofs.Started.{start-refused, start-refusals, end-refused, end-refusals}
 use Rattle.thm_demands.proofs.Opened.{open-refused, open-refusals, open-discarded, open-discards}

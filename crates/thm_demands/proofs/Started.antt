@@ -17,7 +17,7 @@ use Rattle.sched_state.specs.declared.Scheduler as D
 use Rattle.sched_state.specs.declared.Called as C
 use Rattle.sched_state.specs.declared.Outcome.the-variants as O
 use Rattle.sched_state.specs.Calls.{called, startedAs, startCalled, endedAs, endCalled}
-use Rattle.thm_demands.proofs.Telling.{WhenRefused}
+use Rattle.thm_demands.proofs.AnswerKinds.{WhenRefused}
 
 -- ---- a session start
 

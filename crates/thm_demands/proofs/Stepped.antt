@@ -25,8 +25,8 @@ use Rattle.sched_state.specs.Refusals.{stepRefusal, dropRefusal}
 use Rattle.sched_state.specs.Calls.{called, steppedAs, movedOf, stepCalled, stepTable, stepReply}
 use Rattle.thm_demands.specs.Demand1.{Comes}
 use Rattle.thm_demands.proofs.Cascades.{none-of, one-more}
-use Rattle.thm_demands.proofs.Telling.{WhenRefused, WhenDone}
-use Rattle.thm_demands.proofs.Quitting.{QuitAs, move-quits, move-ends}
+use Rattle.thm_demands.proofs.AnswerKinds.{WhenRefused, WhenDone}
+use Rattle.thm_demands.proofs.MoveEnds.{QuitAs, move-quits, move-ends}
 
 refusal-one : (f : ℕ → Bool) (size j : ℕ) (t b : List ℕ) → (stepRefusal f size j t b ≡ 0 → ⊥) → member (stepRefusal f size j t b) (1 ∷ 4 ∷ 5 ∷ 7 ∷ []) ≡ true
 unfolding stepRefusal dropRefusal

@@ -16,7 +16,7 @@ use Rattle.sched_state.specs.Runs.{Call, run}
 use Rattle.thm_serial.specs.Demand3.{quiet, stepsTaken, world, later, New}
 use Rattle.thm_serial.proofs.Potential.{left, opens, total, pairs, potential, left-most, opens-most, all-finished}
 use Rattle.thm_serial.proofs.Whole.{whole}
-use Rattle.thm_serial.proofs.Spending.{run-spent}
+use Rattle.thm_serial.proofs.StepBound.{run-spent}
 
 -- ---- sums over jobs of which only one is open
 

@@ -12,7 +12,7 @@ use Rattle.sched_job.specs.declared.Stage as S
 use Rattle.sched_job.specs.declared.Stage.the-variants.{Free, Hash, Check, Match}
 use Rattle.sched_job.specs.Job.{isOpen, restartedAt, restarted}
 use Rattle.sched_state.specs.Scheduler.{jobAt, openAt}
-use Rattle.thm_serial.proofs.Tying.{restarted-open, open-below}
+use Rattle.thm_serial.proofs.Invariant.{restarted-open, open-below}
 
 -- the steps that a job at a stage may still take, if nothing sends it back
 abbrev pub left : S.Stage → ℕ

@@ -16,7 +16,7 @@ use Rattle.thm_serial.specs.Serial.{Serial, notedAt}
 use Rattle.thm_serial.specs.Demand3.{quiet, stepsTaken, world, serially, New, Demand3}
 use Rattle.thm_serial.proofs.Potential.{potential-most, all-finished}
 use Rattle.thm_serial.proofs.Whole.{whole, run-behind, notes-open}
-use Rattle.thm_serial.proofs.Spending.{run-spent}
+use Rattle.thm_serial.proofs.StepBound.{run-spent}
 
 module _ (s : D.Scheduler) (new : New s) (cs ds : List Call) (t store : List ℕ) where
   abbrev between : World

@@ -15,9 +15,9 @@ use Rattle.sched_state.specs.Scheduler.{settingsOf, jobAt, openAt, Ours}
 use Rattle.sched_state.specs.Runs.{Call, World, Ran, call, run}
 use Rattle.thm_serial.specs.Serial.{Note, unnoted, Serial, SerialRan, notedAt, serialCall, serialRun}
 use Rattle.thm_serial.specs.Demand3.{finished, world, serially, New}
-use Rattle.thm_serial.proofs.Tying.{Made, serialOf, flags, Tied}
-use Rattle.thm_serial.proofs.Agreeing.{Agree}
-use Rattle.thm_serial.proofs.Calling.{call-agrees}
+use Rattle.thm_serial.proofs.Invariant.{Made, serialOf, flags, Tied}
+use Rattle.thm_serial.proofs.Agreement.{Agree}
+use Rattle.thm_serial.proofs.CallAgreement.{call-agrees}
 
 pub record Same (d : Ran) (k : SerialRan) : Type 0 where
   pub outs-are : d .outs ≡ k .outs

@@ -36,7 +36,7 @@ use Rattle.sched_reread.specs.Reread.{holds, holdsPassed}
 use Rattle.sched_job.specs.Moves.{going, done, checkedAs, checkMove, matchJob, skewAt, commitMove, slotMove, slotTable, movedAt, moved, movedTableAt, movedTable}
 use Rattle.thm_demands.specs.Demand1.{ComesTo}
 use Rattle.thm_demands.proofs.Cascades.{or-right}
-use Rattle.thm_demands.proofs.Discarding.{Among, check-among}
+use Rattle.thm_demands.proofs.DiscardNumbers.{Among, check-among}
 
 -- C says what the step comes to; x and u are the job and the table after it, t the table before
 abbrev pub QuitBy : (D.Answer → Type 0) → B.Job → List ℕ → List ℕ → D.Answer → Type 0

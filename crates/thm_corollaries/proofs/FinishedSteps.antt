@@ -16,10 +16,10 @@ use Rattle.sched_state.specs.Refusals.{stepRefusal}
 use Rattle.sched_state.specs.Runs.{Call, Step, World, Out, call, run}
 use Rattle.thm_serial.specs.Serial.{noted, noteAt, notedAt, Serial, serialDid, handled, serialStep, serialCall}
 use Rattle.thm_serial.specs.Demand3.{finished, world, serially, New}
-use Rattle.thm_serial.proofs.Tying.{serialOf}
-use Rattle.thm_serial.proofs.Calling.{call-agrees}
+use Rattle.thm_serial.proofs.Invariant.{serialOf}
+use Rattle.thm_serial.proofs.CallAgreement.{call-agrees}
 use Rattle.thm_serial.proofs.Whole.{whole}
-use Rattle.thm_demands.proofs.Telling.{WhenDone}
+use Rattle.thm_demands.proofs.AnswerKinds.{WhenDone}
 use Rattle.thm_corollaries.proofs.Steady.{settings-kept}
 
 module _ (b p : List ℕ) (clock : ℕ) where

@@ -23,11 +23,11 @@ use Rattle.sched_state.specs.Refusals.{stepRefusal}
 use Rattle.sched_state.specs.Runs.{Call, Step, World, Out, call, run}
 use Rattle.thm_serial.specs.Serial.{Note, unnoted, noted, noteAt, notedAt, serialDid, handled, serialStep, serialCall}
 use Rattle.thm_serial.specs.Demand3.{finished, world, New}
-use Rattle.thm_serial.proofs.Tying.{serialOf, JobTied, Tied}
-use Rattle.thm_serial.proofs.Calling.{call-agrees}
+use Rattle.thm_serial.proofs.Invariant.{serialOf, JobTied, Tied}
+use Rattle.thm_serial.proofs.CallAgreement.{call-agrees}
 use Rattle.thm_serial.proofs.Whole.{whole}
-use Rattle.thm_demands.proofs.Telling.{WhenDone}
-use Rattle.thm_demands.proofs.Discarding.{Among, check-among}
+use Rattle.thm_demands.proofs.AnswerKinds.{WhenDone}
+use Rattle.thm_demands.proofs.DiscardNumbers.{Among, check-among}
 use Rattle.thm_demands.proofs.Handled.{handling}
 
 -- an answer that discards does so as D4 to D6

@@ -23,11 +23,11 @@ use Rattle.sched_state.specs.Refusals.{openRefusal}
 use Rattle.sched_state.specs.Calls.{called, openCalled, openStore}
 use Rattle.sched_state.specs.Runs.{Open, World, did, call}
 use Rattle.thm_serial.specs.Serial.{Note, noted, serialDid, withNote, serialOpen, serialCall}
-use Rattle.thm_serial.proofs.Holding.{Holding}
+use Rattle.thm_serial.proofs.JobInvariant.{Holding}
 use Rattle.thm_serial.proofs.Parts.{opened-same, opened-other}
-use Rattle.thm_serial.proofs.Tying.{serialOf, flags, stored, Tied}
-use Rattle.thm_serial.proofs.Admitting.{open-admitted}
-use Rattle.thm_serial.proofs.Agreeing.{Agree, unchanged}
+use Rattle.thm_serial.proofs.Invariant.{serialOf, flags, stored, Tied}
+use Rattle.thm_serial.proofs.Refusals.{open-admitted}
+use Rattle.thm_serial.proofs.Agreement.{Agree, unchanged}
 
 -- there is a block to hash
 pub some-block : (n : ℕ) → 0 < blockCount n

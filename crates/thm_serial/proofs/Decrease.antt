@@ -29,8 +29,8 @@ use Rattle.sched_job.specs.Moves.{going, done, hashJob, checkedAs, checkMove, m
 use Rattle.sched_state.specs.declared.Scheduler as D
 use Rattle.sched_state.specs.Scheduler.{jobAt, openAt, withJob, restartAll}
 use Rattle.sched_state.specs.Calls.{isAck, steppedAs}
-use Rattle.thm_serial.proofs.Holding.{Ended}
-use Rattle.thm_serial.proofs.Tying.{job-flag, open-below}
+use Rattle.thm_serial.proofs.JobInvariant.{Ended}
+use Rattle.thm_serial.proofs.Invariant.{job-flag, open-below}
 use Rattle.thm_serial.specs.Serial.{noted}
 use Rattle.thm_serial.proofs.Potential.{left, opens, total, pairs, potential, total-set, total-restarted, opens-restarted, pairs-more, open-left}
 

@@ -23,11 +23,11 @@ use Rattle.sched_state.specs.Calls.{called, dropCalled, startedAs, startCalled,
 use Rattle.sched_state.specs.Runs.{Call, Open, Step, Drop, Start, End, World, did, call}
 use Rattle.thm_serial.specs.Serial.{Note, unnoted, serialDid, withNote, withTable, serialDrop, startOutcome, endOutcome, serialCall}
 use Rattle.thm_serial.specs.Demand3.{finished}
-use Rattle.thm_serial.proofs.Tying.{serialOf, flags, Tied}
-use Rattle.thm_serial.proofs.Admitting.{drop-admitted}
-use Rattle.thm_serial.proofs.Agreeing.{Agree, unchanged, struck, restart-tied}
-use Rattle.thm_serial.proofs.Opening.{open-agrees}
-use Rattle.thm_serial.proofs.Stepping.{step-agrees}
+use Rattle.thm_serial.proofs.Invariant.{serialOf, flags, Tied}
+use Rattle.thm_serial.proofs.Refusals.{drop-admitted}
+use Rattle.thm_serial.proofs.Agreement.{Agree, unchanged, struck, restart-tied}
+use Rattle.thm_serial.proofs.OpenAgreement.{open-agrees}
+use Rattle.thm_serial.proofs.StepAgreement.{step-agrees}
 
 module _ (s : D.Scheduler) (t store : List ℕ) (ns : List Note) (h : Tied (record { scheduler = s; table = t; store = store }) ns) where
   abbrev before : World

@@ -29,8 +29,8 @@ use Rattle.sched_state.specs.Calls.{called, isAck, steppedAs, movedOf, openCall
 use Rattle.sched_rows.specs.Layout.{Held, schedulerIn}
 use Rattle.sched_rows.specs.Left.{putJob, restartHeld, leftBy, openLeft, stepLeft, dropLeft, startLeft, endLeft}
 use Rattle.sched_rows.proofs.Kept.{read-ours}
-use Rattle.thm_serial.proofs.Owning.{open-ours, step-ours, drop-ours}
-use Rattle.thm_corollaries.proofs.Reading.{Fits, fits-put, fits-again, again-reads, put-ours, again-ours, put-reads}
+use Rattle.thm_serial.proofs.OurSchedulers.{open-ours, step-ours, drop-ours}
+use Rattle.thm_corollaries.proofs.Arrays.{Fits, fits-put, fits-again, again-reads, put-ours, again-ours, put-reads}
 
 -- h is what a call left that gave c
 pub record Reads (h : Held) (c : C.Called) : Type 0 where

@@ -31,8 +31,8 @@ use Rattle.sched_job.specs.Job.{freeJob}
 use Rattle.sched_job.specs.Moves.{done}
 use Rattle.sched_state.specs.Calls.{isAck}
 use Rattle.thm_serial.proofs.Same.{SamePacket}
-use Rattle.thm_serial.proofs.Judging.{buffer-same}
-use Rattle.thm_serial.proofs.Passing.{Passing}
+use Rattle.thm_serial.proofs.SameAnswers.{buffer-same}
+use Rattle.thm_serial.proofs.PassedCheck.{Passing}
 
 module _ (g : Settings) where
   -- the blocks of the signed request, and the words after k of them

@@ -19,7 +19,7 @@ use Rattle.sched_job.specs.Job.{freeJob, isOpen, restartedAt, restarted}
 use Rattle.sched_state.specs.Scheduler.{settingsOf, jobAt, openAt, partOf}
 use Rattle.sched_state.specs.Runs.{World}
 use Rattle.thm_serial.specs.Serial.{Note, unnoted, noted, isNoted, noteAt, notedAt, Serial}
-use Rattle.thm_serial.proofs.Holding.{Place, Holding}
+use Rattle.thm_serial.proofs.JobInvariant.{Place, Holding}
 
 -- a secret and an identity that making does not refuse
 pub record Made (g : Settings) : Type 0 where

@@ -9,9 +9,9 @@ use Rattle.sched_job.specs.declared.Job as B
 use Rattle.sched_job.specs.declared.Stage as S
 use Rattle.sched_job.specs.declared.Stage.the-variants.{Free, Hash, Check, Match}
 use Rattle.sched_job.specs.Moves.{movedAt, movedTableAt, moved, movedTable}
-use Rattle.thm_serial.proofs.Holding.{Place, Holding, Right}
-use Rattle.thm_serial.proofs.Hashing.{hash-right, check-right}
-use Rattle.thm_serial.proofs.Marking.{slot-right}
+use Rattle.thm_serial.proofs.JobInvariant.{Place, Holding, Right}
+use Rattle.thm_serial.proofs.HashCheck.{hash-right, check-right}
+use Rattle.thm_serial.proofs.MatchCommit.{slot-right}
 
 module _ (g : Settings) (p : List ℕ) (clock : ℕ) (q t b : List ℕ) (open-to : refusalOf g t b ≡ 0) (j : B.Job) (h : Holding g j p clock q t) where
   by-stage : (x : S.Stage) → Place g x (j .words) (j .marks) p clock t → Right g p clock q t b (movedAt g x j q t) (movedTableAt g x j q t)

@@ -24,7 +24,7 @@ use Rattle.sched_job.specs.Job.{firstJob, restartedAt, restarted, Placed, JobOu
 use Rattle.sched_reread.specs.Reread.{holdsPassed}
 use Rattle.sched_job.specs.Moves.{going, done, hashJob, checkedAs, checkMove, matchJob, commitMove, slotMove, movedAt, moved}
 use Rattle.thm_serial.proofs.Same.{form-sized}
-use Rattle.thm_serial.proofs.Opening.{some-block}
+use Rattle.thm_serial.proofs.OpenAgreement.{some-block}
 
 -- ---- a job; n is the secret's length
 

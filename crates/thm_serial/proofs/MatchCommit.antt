@@ -33,9 +33,9 @@ use Rattle.sched_job.specs.declared.Job as B
 use Rattle.sched_reread.specs.Reread.{holdsPassed}
 use Rattle.sched_job.specs.Moves.{going, matchJob, skewAt, commitMove, slotMove, slotTable}
 use Rattle.thm_serial.proofs.Same.{SamePacket}
-use Rattle.thm_serial.proofs.Judging.{answer-same, table-same}
-use Rattle.thm_serial.proofs.Passing.{Passing, passing-holds}
-use Rattle.thm_serial.proofs.Holding.{Right, ends-with, handled-as}
+use Rattle.thm_serial.proofs.SameAnswers.{answer-same, table-same}
+use Rattle.thm_serial.proofs.PassedCheck.{Passing, passing-holds}
+use Rattle.thm_serial.proofs.JobInvariant.{Right, ends-with, handled-as}
 
 -- ---- the marks after all slots
 

@@ -23,7 +23,7 @@ use Rattle.sched_state.specs.Refusals.{stepRefusal}
 use Rattle.sched_state.specs.Calls.{called, steppedAs, movedOf, stepCalled, stepTable, stepReply}
 use Rattle.sched_state.specs.Runs.{Step, World, call}
 use Rattle.thm_serial.specs.Steps.{replied, acks, replies, awaits}
-use Rattle.thm_serial.proofs.Sparing.{acked, stage-kept, stage-early}
+use Rattle.thm_serial.proofs.MoveWrites.{acked, stage-kept, stage-early}
 
 -- ---- a step; j the job, b the reply buffer
 

@@ -33,9 +33,9 @@ use Rattle.packet_words.specs.Words.{wordsOf, hashState, wordsSigned}
 use Rattle.sched_reread.specs.Reread.{holds}
 use Rattle.sched_job.specs.Moves.{going, hashJob, checkedAs, checkMove}
 use Rattle.thm_serial.proofs.Same.{SamePacket, form-sized, same-holds}
-use Rattle.thm_serial.proofs.Judging.{check-same, length-same}
-use Rattle.thm_serial.proofs.Passing.{passing}
-use Rattle.thm_serial.proofs.Holding.{blocksOf, wordsAt, Place, Right, ends-with, handled-as}
+use Rattle.thm_serial.proofs.SameAnswers.{check-same, length-same}
+use Rattle.thm_serial.proofs.PassedCheck.{passing}
+use Rattle.thm_serial.proofs.JobInvariant.{blocksOf, wordsAt, Place, Right, ends-with, handled-as}
 
 module _ (g : Settings) (p : List ℕ) (clock : ℕ) (q t b : List ℕ) (open-to : refusalOf g t b ≡ 0) (good : formOf p ≡ 0) (same : SamePacket p q) where
   -- ---- Hash

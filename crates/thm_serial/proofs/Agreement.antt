@@ -14,7 +14,7 @@ use Rattle.sched_state.specs.Scheduler.{settingsOf, openAt, withJob, restartAll
 use Rattle.sched_state.specs.Calls.{called}
 use Rattle.sched_state.specs.Runs.{World, Did, did}
 use Rattle.thm_serial.specs.Serial.{Note, unnoted, SerialDid, serialDid}
-use Rattle.thm_serial.proofs.Tying.{serialOf, Each, all-restarted, stored, Tied, open-below}
+use Rattle.thm_serial.proofs.Invariant.{serialOf, Each, all-restarted, stored, Tied, open-below}
 
 -- one answer, the tie again, and the store's length
 pub record Agree (n : ℕ) (d : Did) (e : SerialDid) : Type 0 where

@@ -34,13 +34,13 @@ use Rattle.sched_state.specs.Runs.{Call, Open, Step, Drop, Start, End, World, c
 use Rattle.thm_serial.specs.Serial.{Note, unnoted, noted}
 use Rattle.thm_serial.specs.Demand3.{quietBy, quiet, countsBy, stepsTaken}
 use Rattle.thm_serial.proofs.Same.{form-sized}
-use Rattle.thm_serial.proofs.Holding.{Holding}
-use Rattle.thm_serial.proofs.Moving.{move-right}
-use Rattle.thm_serial.proofs.Tying.{JobTied, Tied}
-use Rattle.thm_serial.proofs.Admitting.{step-admitted, handling-admitted}
-use Rattle.thm_serial.proofs.Calling.{call-agrees}
+use Rattle.thm_serial.proofs.JobInvariant.{Holding}
+use Rattle.thm_serial.proofs.Moves.{move-right}
+use Rattle.thm_serial.proofs.Invariant.{JobTied, Tied}
+use Rattle.thm_serial.proofs.Refusals.{step-admitted, handling-admitted}
+use Rattle.thm_serial.proofs.CallAgreement.{call-agrees}
 use Rattle.thm_serial.proofs.Potential.{potential}
-use Rattle.thm_serial.proofs.Bounding.{moved-less, put-less}
+use Rattle.thm_serial.proofs.Decrease.{moved-less, put-less}
 
 -- what a call leaves, and the step that it took
 abbrev Spent : List B.Job → C.Called → Type 0

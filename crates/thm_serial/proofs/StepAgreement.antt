@@ -25,11 +25,11 @@ use Rattle.sched_state.specs.Calls.{called, isAck, steppedAs, movedOf, stepCall
 use Rattle.sched_state.specs.Runs.{Step, World, Did, did, call}
 use Rattle.thm_serial.specs.Serial.{Note, unnoted, noted, noteAt, SerialDid, serialDid, handled, serialStep, serialCall}
 use Rattle.thm_serial.specs.Demand3.{finished}
-use Rattle.thm_serial.proofs.Holding.{Ended, Finished}
-use Rattle.thm_serial.proofs.Moving.{move-right}
-use Rattle.thm_serial.proofs.Tying.{serialOf, JobTied, flags, stored, Tied, open-below}
-use Rattle.thm_serial.proofs.Admitting.{step-admitted, handling-admitted}
-use Rattle.thm_serial.proofs.Agreeing.{Agree, unchanged, after-ack}
+use Rattle.thm_serial.proofs.JobInvariant.{Ended, Finished}
+use Rattle.thm_serial.proofs.Moves.{move-right}
+use Rattle.thm_serial.proofs.Invariant.{serialOf, JobTied, flags, stored, Tied, open-below}
+use Rattle.thm_serial.proofs.Refusals.{step-admitted, handling-admitted}
+use Rattle.thm_serial.proofs.Agreement.{Agree, unchanged, after-ack}
 
 module _ (s : D.Scheduler) (t store : List ℕ) (ns : List Note) (h : Tied (record { scheduler = s; table = t; store = store }) ns) where
   abbrev before : World

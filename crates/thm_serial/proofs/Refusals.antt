@@ -15,7 +15,7 @@ use Rattle.nas_settings.specs.Settings.{Settings}
 use Rattle.das_handle.specs.Refusals.{refusalOf}
 use Rattle.sched_state.specs.Scheduler.{lowestFree}
 use Rattle.sched_state.specs.Refusals.{openRefusal, stepRefusal, dropRefusal}
-use Rattle.thm_serial.proofs.Tying.{Made}
+use Rattle.thm_serial.proofs.Invariant.{Made}
 
 -- a chain of tests that ends in 0 passed the first
 passes : (f : Bool) (n a : ℕ) → cond f (suc n) a ≡ 0 → (f ≡ false) × (a ≡ 0)

@@ -30,9 +30,9 @@ use Rattle.sched_state.specs.Scheduler.{settingsOf, jobAt, openAt, lowestFree, 
 use Rattle.sched_state.specs.Refusals.{openRefusal, stepRefusal, dropRefusal}
 use Rattle.sched_state.specs.Calls.{called, isAck, steppedAs, movedOf, openCalled, stepCalled, dropCalled, startedAs, startCalled, endedAs, endCalled}
 use Rattle.sched_state.specs.Runs.{Call, Open, Step, Drop, Start, End, World, call}
-use Rattle.thm_serial.proofs.Tying.{open-below}
-use Rattle.thm_serial.proofs.Admitting.{step-admitted, drop-admitted, open-admitted}
-use Rattle.thm_serial.proofs.Keeping.{moved-ours, restarted-ours, first-ours}
+use Rattle.thm_serial.proofs.Invariant.{open-below}
+use Rattle.thm_serial.proofs.Refusals.{step-admitted, drop-admitted, open-admitted}
+use Rattle.thm_serial.proofs.OurJobs.{moved-ours, restarted-ours, first-ours}
 
 -- ---- the same scheduler with other jobs
 
