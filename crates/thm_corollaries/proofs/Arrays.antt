@@ -1,5 +1,6 @@
--- The arrays that a call leaves read as the scheduler that its definition gives: a job's rows written read as that job put there, and rows sent back as
--- the jobs restarted. Every job that a call puts is one of ours, since the scheduler after it is.
+-- The arrays in which C holds a scheduler read as that scheduler after each change: with a job written to its row, as the scheduler with that job
+-- put in its place; with every row sent back to slot 0, as the scheduler with every job restarted. This needs that a job which a call puts there is
+-- one that our calls can produce, and it is, since the whole scheduler after the call is.
 -- Assumes nothing.
 use mathlib.Core.Bool.{Bool, true, false}
 use mathlib.Core.List.{List, [], _∷_}

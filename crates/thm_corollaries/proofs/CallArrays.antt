@@ -1,4 +1,5 @@
--- What each call leaves reads as its definition's scheduler, and has the sizes of C's types: by the cases of the call's definition.
+-- The arrays that each call leaves read as the scheduler that the call's definition gives, and have the sizes of C's types: by the cases of the
+-- definition, each of which keeps the arrays, or writes one job's row, restarts all jobs, or both.
 -- Assumes nothing.
 use mathlib.Core.Bool.{Bool, true, false, cond}
 use mathlib.Core.List.{List}

@@ -1,4 +1,4 @@
--- A step that finishes a noted request answers and replies as the request handled whole: so does the serial execution, and the two agree.
+-- A step that finishes a noted request answers and replies as handling the request whole does: so does the serial execution, and the two agree.
 -- Assumes nothing.
 use mathlib.Core.Path.{_≡_, refl, sym, ap, subst, _∙_}
 use mathlib.Core.Bool.{Bool, true, false, cond}

@@ -1,4 +1,5 @@
--- The reply of a request handled whole passes our reply check: it is that of a NAK's cause or of an ACK, and demand 2 has that such a reply passes.
+-- The reply of a request handled whole passes our reply check: it is the reply for the cause of a NAK or for an ACK, and demand 2 says that such a
+-- reply passes.
 -- Assumes nothing.
 use mathlib.Core.Path.{_≡_, ap, _∙_}
 use mathlib.Core.Bool.{false, true≢false}

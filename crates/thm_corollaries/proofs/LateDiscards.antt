@@ -1,5 +1,5 @@
--- A step discards as D4 to D6 alone while nothing else writes the store: what it finishes is a noted request handled whole, and one was noted only if none of
--- D1 to D3 applied, so its verdict is that of the Check.
+-- While nothing else writes the store, a step discards as D4 to D6 alone: what it finishes is a noted request handled whole, and a request is noted
+-- only if none of D1 to D3 applies, so what is left is the verdict of Check.
 -- Assumes nothing.
 use mathlib.Core.Path.{_≡_, refl, sym, subst}
 use mathlib.Core.Bool.{Bool, true, false, cond}

@@ -1,4 +1,5 @@
--- A call's contract gives the next state of a list's run: a run is defined call by call, with the very definitions that the contracts name.
+-- What a call's contract says of its result is the next state of a list's run: a run is defined call by call, with the very definitions that the
+-- contracts name.
 -- Assumes nothing.
 use mathlib.Core.List.{List}
 use Rattle.sched_state.specs.Runs.{Call, World, call, run}

@@ -1,5 +1,5 @@
--- Demand 3 over C's own contracts, proved: what a C program holds after each call reads as the next state of the list's run, since the contracts name the very
--- definitions by which a run goes on; and of a run demand 3 holds.
+-- Demand 3 over C's own contracts, proved: what a C program holds after each call reads as the next state of the list's run, since the contracts
+-- name the very definitions by which a run goes on; and for runs there is demand 3.
 -- Assumes nothing.
 use mathlib.Core.List.{List, [], _∷_}
 use mathlib.Core.Path.{_≡_, refl, sym, ap, _∙_, subst}

@@ -1,4 +1,5 @@
--- The corollaries: a finished step is the request handled whole, and of that demand 2 has the reply and the exchanges the writer's requests.
+-- The corollaries: a step that finishes a request gives what handling it whole gives. Of that, demand 2 says that the reply passes, and a request
+-- from our writer can only be discarded for its stamp.
 -- Assumes nothing.
 use mathlib.Core.List.{List}
 use Prim.Native.Nat.{ℕ}

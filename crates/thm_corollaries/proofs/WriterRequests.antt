@@ -1,4 +1,5 @@
--- A request from our writer has a good form, signature and type 80, so its opening discards nothing, and of the discards only D6, the stamp's, is left.
+-- A request from our writer has a good form, a right authenticator and a right type 80. So opening does not discard it, and of the discards only
+-- D6, for its stamp, is left.
 -- Assumes nothing.
 use mathlib.Core.Path.{_≡_, refl, subst}
 use mathlib.Core.Bool.{Bool, true, false, cond, false≢true}

@@ -1,5 +1,5 @@
--- What an answer of a scheduler tells of a property: it is claimed for one kind of answer and of the others nothing. So a claim about every call that ends in
--- that kind is proved along the call's own cases, and its other ends need no argument.
+-- A property claimed of one kind of answer of a call on a scheduler, and of no other kind. So a claim on every call that ends in that kind is
+-- proved along the cases of the call's definition, and the cases with another answer need no argument.
 -- Assumes nothing.
 use Prim.Native.Nat.{ℕ}
 use Rattle.das_answer.specs.declared.Answer as A

@@ -1,5 +1,5 @@
--- The reply of a request that is answered: R2 does not apply to its secret, and the request has a good form, so the reply read back is what was put into it, signed
--- over the request's authenticator, and it passes the reply check. Its length is the one told, as an answer tells the length that the reply is written with.
+-- The reply of a request that is answered: R2 does not apply to its secret, and the request has a good form, so the reply read back is what was put
+-- into it, signed over the request's authenticator, and it passes the reply check. An answer tells the length that its reply is written with.
 -- Assumes nothing.
 use mathlib.Core.Path.{_≡_, refl, sym, subst, _∙_}
 use mathlib.Core.Bool.{Bool, true, false, cond, true≢false}

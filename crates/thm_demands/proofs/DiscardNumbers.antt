@@ -1,4 +1,5 @@
--- The D numbers of a verdict: 1 to 3 by the form, 4 and 5 by the signatures, 6 by the stamp; a cause is none.
+-- The numbers that a verdict can discard with: 1 to 3 by the packet's form, 4 and 5 by its signatures, 6 by its stamp; a verdict with a NAK cause
+-- discards nothing.
 -- Assumes nothing.
 use mathlib.Core.Path.{_≡_, refl}
 use mathlib.Core.Bool.{Bool, true, false, cond, _||_, false≢true}

@@ -1,4 +1,5 @@
--- Demand 1: whole requests, the writer and the reply check, and the calls on a scheduler each have it by their own definitions; here they are one record.
+-- Demand 1: whole requests, the writer and the reply check, the calls on a scheduler, and what C holds of one each have it by their own
+-- definitions; here they are one record.
 -- Assumes nothing.
 use Rattle.thm_demands.specs.Demand1.{Demand1}
 use Rattle.thm_demands.proofs.Handled.{handling}

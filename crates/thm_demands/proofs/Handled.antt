@@ -1,5 +1,5 @@
--- Demand 1 of whole requests: the lowest refusal that applies is given before anything is judged, and else the verdict's discard; so a refused answer is that
--- number, a discard is the verdict's, and neither writes table or reply.
+-- Demand 1 of whole requests: the lowest refusal that applies is given before anything is judged, and where none does, the discard of the verdict.
+-- So a refused answer has that number, a discard is the verdict's, and neither writes table or reply buffer.
 -- Assumes nothing.
 use mathlib.Core.Path.{_≡_, refl, sym, ap, subst, _∙_}
 use mathlib.Core.Bool.{Bool, true, false, cond, false≢true}

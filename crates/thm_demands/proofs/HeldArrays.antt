@@ -1,4 +1,5 @@
--- Demand 1 of what C holds: a refusal, and a discard at opening, leave every array as it was, by the first two cases of what a call leaves.
+-- Demand 1 of the arrays that C holds of a scheduler: a refusal, and a discard at opening, leave every array as it was, by the cases for these two
+-- in the definition of what a call leaves.
 -- Assumes nothing.
 use mathlib.Core.List.{List}
 use mathlib.Core.Path.{_≡_}

@@ -1,5 +1,5 @@
--- A move that finishes a job in a discard: a re-reading that no longer holds gives D1, Check gives D4 to D6 by its verdict, and Commit gives NAK or ACK, never
--- a discard. Every finished job is given back free, and only a Commit writes the table.
+-- How a move that finishes a job ends. Where the part of the store, read again, is no longer the request, it is D1; Check gives D4 to D6 by its
+-- verdict; Commit gives NAK or ACK, never a discard. Every finished job is given back free, and only a Commit writes the table.
 -- Assumes nothing.
 use mathlib.Core.Path.{_≡_, refl, ap}
 use mathlib.Core.Bool.{Bool, true, false, cond}

@@ -1,5 +1,5 @@
--- Demand 1 of the calls on a scheduler: each tests its refusals first and gives the first that applies, with all that was lent as it came. Here making and a
--- drop; an opening, a step, and a session's start and end have files of their own.
+-- Demand 1 of the calls on a scheduler: each tests its refusals first and gives the first that applies, with all that was lent as it came. Here
+-- making and a drop; an opening, a step, and a session's start and end have files of their own.
 -- Assumes nothing.
 use mathlib.Core.Path.{_≡_, refl, subst}
 use mathlib.Core.Bool.{Bool, true, false, cond, not, _||_}

@@ -1,5 +1,5 @@
--- Demand 1 of a step: a refusal is the first number of its cascade, and then nothing is touched; a discard is that of the job's move, which frees the job, leaves
--- the table and writes no reply.
+-- Demand 1 of a step: a refusal is the number of the first test that applies, and then nothing is changed; a discard is that of the job's move,
+-- which frees the job, leaves the table and writes no reply.
 -- Assumes nothing.
 use mathlib.Core.Path.{_≡_, refl, ap, subst}
 use mathlib.Core.Bool.{Bool, true, false, cond, not, _||_}

@@ -1,5 +1,6 @@
--- What it is that a call of the scheduler and of the serial execution agree: one answer, one table, and the tie again. A call that changes nothing agrees;
--- so does a job freed with its note struck, and where the table changed with it, every job past Check sent back to slot 0.
+-- What it means that a call on the scheduler and the serial execution agree: they give the same answer, and the invariant between them holds again.
+-- It does where a call changes nothing, and where it frees a job and strikes its note. Where the table changed, every job past Check was sent back
+-- to slot 0, and there the invariant holds under any table.
 -- Assumes nothing.
 use mathlib.Core.Path.{_≡_, refl}
 use mathlib.Core.Bool.{Bool, true, false, cond}
@@ -16,7 +17,7 @@ use Rattle.sched_state.specs.Runs.{World, Did, did}
 use Rattle.thm_serial.specs.Serial.{Note, unnoted, SerialDid, serialDid}
 use Rattle.thm_serial.proofs.Invariant.{serialOf, Each, all-restarted, stored, Tied, open-below}
 
--- one answer, the tie again, and the store's length
+-- the same answer, the invariant again, and the store's length
 pub record Agree (n : ℕ) (d : Did) (e : SerialDid) : Type 0 where
   pub out-is : d .out ≡ e .out
   pub notes : List Note

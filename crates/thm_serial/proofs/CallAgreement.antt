@@ -1,5 +1,5 @@
--- Every call on the scheduler agrees with the serial execution. Opening and stepping do; a drop frees the job and strikes its
--- note; a start and an end change the table and send every job past Check back to slot 0, and where refused change nothing.
+-- Every call on the scheduler agrees with the serial execution. Opening and a step have files of their own. A drop frees the job and strikes its
+-- note; a start and an end change the table and send every job past Check back to slot 0, and where they are refused they change nothing.
 -- Assumes nothing.
 use mathlib.Core.Path.{_≡_, refl}
 use mathlib.Core.Bool.{Bool, true, false, cond}

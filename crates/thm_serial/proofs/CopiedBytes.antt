@@ -1,4 +1,5 @@
--- Opening writes only the copied bytes (document 01, "The desk"): every byte before them and behind them stays, whatever the store holds.
+-- Opening writes only the copied bytes (document 01, "The desk"): every byte before them and after them stays, whatever the store holds, since a
+-- write keeps every byte outside its range, and the range is the packet's Length bytes.
 -- Assumes nothing.
 use mathlib.Core.Path.{_≡_, refl}
 use mathlib.Core.Bool.{Bool, true, false, cond}
@@ -18,7 +19,7 @@ use Rattle.sched_state.specs.Calls.{openStore}
 use Rattle.sched_state.specs.Runs.{Open, World, call}
 use Rattle.thm_serial.proofs.Same.{form-sized}
 
--- ---- opening: x is the job that it takes, i a place of the store before the copied bytes or behind them
+-- ---- opening: x is the job that it takes, i a place of the store before the copied bytes or after them
 
 module _ (p store : List ℕ) (x i : ℕ) where
   before-by : (f d : Bool) → i < x * 4096 → getD (cond f (cond d (write store (x * 4096) (take (lengthOf p) p)) store) store) i 0 ≡ getD store i 0

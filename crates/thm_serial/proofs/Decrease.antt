@@ -1,5 +1,6 @@
--- Each step that is not refused makes the number of steps that are left at most smaller, whatever it sends back: a step that goes on takes one from its own job;
--- one that finishes takes its job away, and with it 64 for each job that is still open, which is what sending them back costs.
+-- Each step that is not refused lowers the bound on the steps still to come (`Potential.antt`), even where it sends jobs back to slot 0: a step
+-- that goes on takes one from what its own job has left; one that finishes takes its job out of the count, and with it 64 for each job that is
+-- still open, which is the most that sending those back can cost.
 -- Assumes nothing.
 use mathlib.Core.Path.{_≡_, refl}
 use mathlib.Core.Bool.{Bool, true, false, cond, false≢true}

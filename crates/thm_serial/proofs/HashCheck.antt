@@ -1,5 +1,5 @@
--- Hash and Check of a job that holds a request: a block hashed is the next of the same message, so the last words are the authenticator, and Check gives the
--- verdict of the packet: the job ends as the packet handled whole, or has passed.
+-- Hash and Check keep the invariant of a job. Each Hash works the next block of the same message, so after the last block the words are the
+-- authenticator, and Check gives the verdict of the packet: it ends the job with what handling the packet whole gives, or the packet passed.
 -- Assumes nothing.
 use mathlib.Core.Path.{_≡_, refl, sym, ap, _∙_}
 use mathlib.Core.Bool.{Bool, true, false, cond}

@@ -1,5 +1,5 @@
--- What ties the scheduler to the serial execution: the same settings and table, a note for each open job and for no other, and each open job holds the
--- request of its note. A job sent back to slot 0 holds it under any table.
+-- The invariant between the scheduler and the serial execution: the same settings and table, a note for each open job and for no other, and each
+-- open job is at work on the request of its note. A job sent back to slot 0 meets it under any table, since it has no marks yet.
 -- Assumes nothing.
 use mathlib.Core.Path.{_≡_, refl, sym, ap, subst, _∙_, fun-ext}
 use mathlib.Core.Bool.{true, false, false≢true}

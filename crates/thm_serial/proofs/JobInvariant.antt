@@ -1,4 +1,5 @@
--- What an open job holds of the request that it works on, and what a step of it must do: go on with the same request, or end as the request handled whole does.
+-- The invariant of an open job: which Length, clock, chaining words and marks it has at each stage of its request. And what a step of it must do:
+-- keep the invariant, or end with the answer, table and reply buffer that handling the request whole gives.
 -- Assumes nothing.
 use mathlib.Core.Path.{_≡_, refl, sym, ap, _∙_}
 use mathlib.Core.Bool.{false, true≢false}
@@ -42,7 +43,7 @@ module _ (g : Settings) where
   abbrev pub wordsAt : List ℕ → ℕ → List ℕ
   wordsAt p k = wordsOf (hashedTo k p (lengthOf p) (g .secret))
 
-  -- in Hash the words after its blocks so far; in Check the last words; behind it a request that passed, and the marks of its slots so far
+  -- in Hash the words after its blocks so far; in Check the last words; after it a request that passed, and the marks of its slots so far
   abbrev pub Place : S.Stage → List ℕ → List ℕ → List ℕ → ℕ → List ℕ → Type 0
   Place Free w m p clock t = ⊥
   Place (Hash k) w m p clock t = (k < blocksOf p) × (w ≡ wordsAt p k)

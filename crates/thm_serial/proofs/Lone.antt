@@ -1,4 +1,5 @@
--- A lone job is finished by its 132nd step: no other job can send it back, so what its stage leaves is all that is left.
+-- A lone job is finished by its 132nd step: no other job is open that could send it back to slot 0, so the steps that its stage leaves are all that
+-- it takes.
 -- Assumes nothing.
 use mathlib.Core.Path.{_≡_, refl}
 use mathlib.Core.Bool.{true, false, true≢false}

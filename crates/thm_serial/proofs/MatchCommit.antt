@@ -1,5 +1,5 @@
--- Match and Commit of a job that holds a request which passed: a slot marked is the next of the same walk, and the marks after all slots are the matching
--- sessions, so Commit answers and changes as the packet handled whole.
+-- Match and Commit keep the invariant of a job whose request passed Check. Each Match examines the next slot, and the marks after all slots are the
+-- matching sessions, so Commit answers and changes the table as handling the packet whole does.
 -- Assumes nothing.
 use mathlib.Core.Path.{_≡_, refl, sym, ap, _∙_}
 use mathlib.Core.Bool.{Bool, true, false, cond}

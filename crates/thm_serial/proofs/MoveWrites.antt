@@ -1,5 +1,5 @@
--- What a move of a job leaves of the table, whatever it holds and whatever table and store hold: only a Commit that ends in ACK writes it, since one that finds
--- nothing marked and live changes nothing.
+-- A move of a job leaves the table, unless it is a Commit that ends in ACK, whatever job, table and store hold: no other move writes it, and a
+-- Commit that finds no slot marked and live changes nothing.
 -- Assumes nothing.
 use mathlib.Core.Path.{_≡_, refl, _∙_}
 use mathlib.Core.Bool.{Bool, true, false, cond, not, true≢false}

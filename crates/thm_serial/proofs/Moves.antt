@@ -1,4 +1,4 @@
--- One step of a job that holds a request goes on with it or ends as the request handled whole, whatever its stage.
+-- One step of an open job keeps its invariant, or ends with what handling its request whole gives: at each stage by the law of that stage's move.
 -- Assumes nothing.
 use mathlib.Core.Path.{_≡_}
 use mathlib.Core.List.{List}

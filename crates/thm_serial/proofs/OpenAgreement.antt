@@ -1,5 +1,5 @@
--- Opening agrees with the serial execution: it copies the packet to its job's part of the store, where the job holds it from the first block on, and the note
--- names packet and clock.
+-- Opening agrees with the serial execution: it copies the packet to its job's part of the store, where the new job meets its invariant before the
+-- first block, and the serial execution notes packet and clock.
 -- Assumes nothing.
 use mathlib.Core.Path.{_≡_, refl}
 use mathlib.Core.Bool.{Bool, true, false, cond}

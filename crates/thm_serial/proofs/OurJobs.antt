@@ -1,5 +1,5 @@
--- A job of ours stays one, whatever table and store hold: a job opened has a block to hash, one that hashed a block goes to the next only where there is one,
--- and of any other stage nothing is asked.
+-- A job that making and our calls can have produced stays one after a move, whatever table and store hold: a job just opened has a block to hash,
+-- one that hashed a block goes to the next only where there is one, and of the other stages nothing is asked.
 -- Assumes nothing.
 use mathlib.Core.Path.{_≡_, refl}
 use mathlib.Core.Bool.{Bool, true, false, cond}

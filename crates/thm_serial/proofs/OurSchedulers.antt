@@ -1,5 +1,5 @@
--- Every call leaves a scheduler of ours one of ours, whatever table and store hold: secret and identity never change, the jobs stay four, and each of them stays a
--- job of ours.
+-- A scheduler that making and our calls can have produced stays one after every call, whatever table and store hold: secret and identity never
+-- change, the jobs stay four, and each of them stays such a job.
 -- Assumes nothing.
 use mathlib.Core.Path.{_≡_, refl}
 use mathlib.Core.Bool.{Bool, true, false, cond}

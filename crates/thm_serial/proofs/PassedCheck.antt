@@ -1,5 +1,6 @@
--- A request that passed Check holds when read again, and its skew can be told again. A pass means: type 80 is right, so of length 18 if there is one;
--- the stamp is usable, and the skew is that of the stamp; none of causes 1 to 6 applies.
+-- A request that passed Check is found unaltered when its part of the store is read again, and its skew can be told again. To pass means that type
+-- 80 is right, so of length 18 if there is one; that the stamp is usable, and the skew is that of the stamp; and that none of causes 1 to 6
+-- applies.
 -- Assumes nothing.
 use mathlib.Core.Path.{_≡_, refl, sym, _∙_}
 use mathlib.Core.Bool.{Bool, true, false, not}
@@ -29,7 +30,7 @@ use Rattle.sched_reread.specs.Reread.{usable, oddMac, holdsPassed}
 use Rattle.sched_job.specs.Moves.{skewAt}
 use Rattle.thm_serial.proofs.Same.{SamePacket, same-holds}
 
--- signed says whether D4 left it
+-- signed says that D4 does not apply
 pub record Passing (g : Settings) (signed : Bool) (p : List ℕ) (clock : ℕ) : Type 0 where
   pub verdict : checkVerdict g signed p clock ≡ J.Passed (skewAt (stampOf (areaOf p)) clock)
   pub stamped : usable (stampOf (areaOf p)) ≡ true
@@ -71,7 +72,7 @@ module _ (g : Settings) (p : List ℕ) (clock : ℕ) (k : ℤ) where
         uncaused-is = rw c;
       }
 
--- so it holds when read again
+-- so it is found unaltered when it is read again
 pub passing-holds : (g : Settings) (signed : Bool) (p q : List ℕ) (clock : ℕ) → SamePacket p q → Passing g signed p clock → holdsPassed g (lengthOf p) q ≡ true
 unfolding holdsPassed
 passing-holds g signed p q clock s h = rw (same-holds p q s, s .area, s .code, h .stamped, h .even, h .uncaused-is)

@@ -1,4 +1,5 @@
--- Demand 3, proved: the two agree on every list of calls, and with at most 912 steps left the 912th finishes the last open request.
+-- Demand 3, proved: the scheduler and the serial execution agree on every list of calls, and as at most 912 steps can be left, the 912th finishes
+-- the last open request.
 -- Assumes nothing.
 use mathlib.Core.Path.{_≡_, sym, ap, _∙_}
 use mathlib.Core.Bool.{Bool, true, false}

@@ -1,5 +1,5 @@
--- What a call that is not refused has passed: each test of its refusals. So the request that a step finishes is not refused by handling either: table and reply
--- buffer passed at the step, secret and identity when the scheduler was made.
+-- A call that is not refused passed each test of its refusals. So the request that a step finishes is not refused by handling either: table and
+-- reply buffer passed at the step, secret and identity when the scheduler was made.
 -- Assumes nothing.
 use mathlib.Core.Path.{_≡_, refl}
 use mathlib.Core.Bool.{Bool, true, false, cond, not, _||_}

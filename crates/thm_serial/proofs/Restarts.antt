@@ -1,5 +1,5 @@
--- Who is restarted, and whose job is free (document 01, "The desk"): an ACK, a start and an end restart every job, and restarting is nothing to a job that is not in Match and
--- does not await Commit; a step that finishes has a free job to put back.
+-- Which jobs are restarted, and which job is free after a step (document 01, "The desk"). An ACK, a start and an end restart every job, and
+-- restarting changes only a job that is in Match or awaits Commit; every move that finishes gives back a free job.
 -- Assumes nothing.
 use mathlib.Core.Path.{_≡_, refl, ap, _∙_}
 use mathlib.Core.Bool.{Bool, true, false, cond, false≢true}

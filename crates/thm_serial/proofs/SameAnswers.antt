@@ -1,5 +1,5 @@
--- A packet read again is judged and answered as the packet itself: verdict, reply, commit. Each of them looks only at Length, code, identifier,
--- authenticator and attributes, and at the messages under the signatures, which two packets alike up to Length share.
+-- A packet read again from the store gets the verdict, the reply and the Commit of the packet itself: they look only at Length, code, identifier,
+-- authenticator and attributes, and at the bytes that the signatures cover, and all these are the same.
 -- Assumes nothing.
 use mathlib.Core.Path.{_≡_, refl, fun-ext}
 use mathlib.Core.Bool.{Bool}

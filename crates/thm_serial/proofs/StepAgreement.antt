@@ -1,5 +1,5 @@
--- A step of the scheduler and of the serial execution agree. A step that goes on changes the job alone, which holds the same request; one that finishes ends
--- as the noted packet handled whole, frees the job, and where it changed the table sends every other job back to slot 0.
+-- A step agrees with the serial execution. One that goes on changes its job alone, which keeps its invariant; one that finishes ends with what
+-- handling the noted packet whole gives, frees the job, and where it changed the table sends every other job past Check back to slot 0.
 -- Assumes nothing.
 use mathlib.Core.Path.{_≡_, refl, sym, ap, _∙_}
 use mathlib.Core.Bool.{Bool, true, false, cond, false≢true}
@@ -35,7 +35,7 @@ module _ (s : D.Scheduler) (t store : List ℕ) (ns : List Note) (h : Tied (reco
   abbrev before : World
   before = record { scheduler = s; table = t; store = store }
 
-  -- what the two do with a job moved, by whether it is finished
+  -- what scheduler and serial execution do after the move of a job, by whether it is finished
   abbrev done-of : ℕ → List ℕ → List ℕ → B.Job → E.Ending → Did
   done-of j b u x e = did (steppedAs s j (record { job = x; ending = e }) e) (replyAfter (settingsOf s .secret) (partOf j store) b e) u store
 

@@ -1,4 +1,5 @@
--- A list of calls that opens, starts, ends and drops nothing takes at most as many steps as were left, each of them one less.
+-- A list of calls that opens, starts, ends and drops nothing takes at most as many steps as the bound at its start says: each step that is not
+-- refused lowers the bound by one or more, and no other call of the list raises it.
 -- Assumes nothing.
 use mathlib.Core.Path.{_≡_, refl, sym, _∙_}
 use mathlib.Core.Bool.{Bool, true, false, cond, false≢true}
@@ -42,7 +43,7 @@ use Rattle.thm_serial.proofs.CallAgreement.{call-agrees}
 use Rattle.thm_serial.proofs.Potential.{potential}
 use Rattle.thm_serial.proofs.Decrease.{moved-less, put-less}
 
--- what a call leaves, and the step that it took
+-- the bound after a call with the step that it took is no more than the bound before
 abbrev Spent : List B.Job → C.Called → Type 0
 Spent js c = quietBy (c .outcome) ≡ true → potential (c .scheduler .jobs) + countsBy (c .outcome) ≤ potential js
 

@@ -1,5 +1,5 @@
--- What a step writes (document 01, "The desk"), whatever was written to table and store between them. Of the steps, only a Commit that ends in ACK writes the
--- table; only one that finishes in ACK or NAK writes the reply buffer; none writes the store.
+-- What a step writes (document 01, "The desk"), whatever was written to table and store before it: by the definition of a step only a Commit that
+-- ends in ACK writes the table, only a step that finishes in ACK or NAK writes the reply buffer, and none writes the store.
 -- Assumes nothing.
 use mathlib.Core.Path.{_≡_, refl, sym, _∙_}
 use mathlib.Core.Bool.{Bool, true, false, cond, true≢false}
