@@ -1,13 +1,14 @@
--- The laws of document 01 on the scheduler: those of single calls are proved beside demand 3, and D1 is no number that a step of a list discards as.
+-- What document 01 says of the scheduler beside demand 3: the laws of single calls are proved in the crate of demand 3, and a step of a list never
+-- discards as D1, since there it discards as D4 to D6 alone.
 -- Assumes nothing.
 use mathlib.Core.Bool.{false≢true}
 use Rattle.thm_serial.proofs.Lone as L
-use Rattle.thm_serial.proofs.Writing as W
-use Rattle.thm_serial.proofs.Copying as C
+use Rattle.thm_serial.proofs.StepWrites as W
+use Rattle.thm_serial.proofs.CopiedBytes as C
 use Rattle.thm_serial.proofs.Others as O
-use Rattle.thm_serial.proofs.Restarting as R
+use Rattle.thm_serial.proofs.Restarts as R
 use Rattle.thm_corollaries.specs.Laws.{Laws}
-use Rattle.thm_corollaries.proofs.Rereading.{discards-late}
+use Rattle.thm_corollaries.proofs.LateDiscards.{discards-late}
 
 pub laws : Laws
 laws =

@@ -1,5 +1,5 @@
--- Demand 3 over C's own contracts, proved: what a C program holds after each call reads as the next state of the list's run, since the contracts name the very
--- definitions by which a run goes on; and of a run demand 3 holds.
+-- Demand 3 over C's own contracts, proved: what a C program holds after each call reads as the next state of the list's run, since the contracts
+-- name the very definitions by which a run goes on; and for runs there is demand 3.
 -- Assumes nothing.
 use mathlib.Core.List.{List, [], _∷_}
 use mathlib.Core.Path.{_≡_, refl, sym, ap, _∙_, subst}
@@ -18,8 +18,8 @@ use Rattle.sched_rows.proofs.Back.{in-out}
 use Rattle.thm_serial.specs.Demand3.{world, serially}
 use Rattle.thm_serial.proofs.Proved.{demand3}
 use Rattle.thm_corollaries.specs.FromC.{Holds, Event, GivenBy, Promised, AllPromised, callsOf, lastTable, SameAs, Program, FromC}
-use Rattle.thm_corollaries.proofs.Reading.{Fits}
-use Rattle.thm_corollaries.proofs.Crossing.{Reads, open-reads, step-reads, drop-reads, start-reads, end-reads}
+use Rattle.thm_corollaries.proofs.Arrays.{Fits}
+use Rattle.thm_corollaries.proofs.CallArrays.{Reads, open-reads, step-reads, drop-reads, start-reads, end-reads}
 
 -- what a program holds, as a run has it
 abbrev stateOf : Holds → World

@@ -1,6 +1,6 @@
--- What the demands give together, as one record. After any list of calls on a newly made scheduler: the reply of a step that finishes a request passes our reply
--- check against the packet of its opening; a request from our writer is not discarded when it is opened, and a step discards it for its stamp alone (D6). And
--- what a call's contract says is the next state of the list's run, so that contracts and demand 3 chain.
+-- What the demands give together, as one record. After any list of calls on a newly made scheduler: the reply of a step that finishes a request
+-- passes our reply check against the packet of its opening; a request from our writer is not discarded when it is opened, and a step discards it
+-- for its stamp alone (D6). And what a call's contract says is the next state of the list's run, so that demand 3 follows from the contracts.
 -- Assumes nothing.
 use mathlib.Core.Bool.{false}
 use mathlib.Core.List.{List, [], _∷_}

@@ -1,6 +1,6 @@
--- Demand 3 over C's own contracts. A C program makes a scheduler and then calls opening, step, drop, start and end in any order, each with the arrays, the table
--- and the store as the call before left them. The premises are what `capi` promises of the six calls; the conclusion is that every number given out, every reply
--- buffer and the table are those of the serial execution.
+-- Demand 3 over C's own contracts. A C program makes a scheduler and then calls opening, step, drop, start and end in any order, each with the
+-- arrays, the table and the store as the call before left them. The premises are what `capi` promises of the six calls; the conclusion is that
+-- every number given out, every reply buffer and the table are those of the serial execution.
 -- Assumes nothing.
 use mathlib.Core.List.{List, [], _∷_}
 use mathlib.Core.Path.{_≡_}

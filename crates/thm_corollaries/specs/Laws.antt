@@ -1,6 +1,6 @@
--- What document 01 says of the scheduler ("The desk") beside demand 3, as one record: each of these sentences follows from the definitions of the calls.
--- The first and the last are about lists of calls on a newly made scheduler; the others hold of any scheduler, whatever was written to table and store
--- between the calls.
+-- What document 01 says of the scheduler ("The desk") beside demand 3, as one record: each of these sentences follows from the definitions of the
+-- calls. The first and the last are about lists of calls on a newly made scheduler; the others hold of any scheduler, whatever was written to table
+-- and store between the calls.
 -- Assumes nothing.
 use mathlib.Core.Bool.{true, false}
 use mathlib.Core.List.{List}
@@ -43,7 +43,7 @@ pub record Laws : Type 0 where
   -- "and opening writes only the copied bytes": none before the part of the job that it takes
   pub open-before : (p : List ℕ) (clock : ℕ) (w : World) (i : ℕ) → i < lowestFree (openAt (w .scheduler .jobs)) * 4096
       → getD (call (Open p clock) w .world .store) i 0 ≡ getD (w .store) i 0
-  -- and none behind the packet's Length bytes
+  -- and none after the packet's Length bytes
   pub open-behind : (p : List ℕ) (clock : ℕ) (w : World) (i : ℕ) → lowestFree (openAt (w .scheduler .jobs)) * 4096 + lengthOf p ≤ i
       → getD (call (Open p clock) w .world .store) i 0 ≡ getD (w .store) i 0
   -- of the steps only an ACK sends others back to slot 0: one that does not end in ACK leaves every other job

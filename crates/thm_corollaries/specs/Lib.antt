@@ -1,3 +1,4 @@
 pub mod Corollaries
 pub mod Laws
 pub mod FromC
+pub mod Padding

@@ -1,5 +1,5 @@
--- The reply of a request that is answered: R2 does not apply to its secret, and the request has a good form, so the reply read back is what was put into it, signed
--- over the request's authenticator, and it passes the reply check. Its length is the one told, as an answer tells the length that the reply is written with.
+-- The reply of a request that is answered: R2 does not apply to its secret, and the request has a good form, so the reply read back is what was put
+-- into it, signed over the request's authenticator, and it passes the reply check. An answer tells the length that its reply is written with.
 -- Assumes nothing.
 use mathlib.Core.Path.{_≡_, refl, sym, subst, _∙_}
 use mathlib.Core.Bool.{Bool, true, false, cond, true≢false}
@@ -87,7 +87,7 @@ module _ (g : Settings) (t b p : List ℕ) (clock : ℕ) where
 
   -- ---- what a reply carries
 
-  unrefused : silent (handleAnswer g t b p clock) ≡ false → refusalOf g t b ≡ 0
+  pub unrefused : silent (handleAnswer g t b p clock) ≡ false → refusalOf g t b ≡ 0
   unfolding handleAnswer
   unrefused h = eqb-true _ 0 (not-refused (answerOf p t (verdictOf g (signedBy (g .secret) p) p clock)) (refusalOf g t b) (eqb (refusalOf g t b) 0) h)
 

@@ -1,4 +1,4 @@
--- A refusal is the first number of a cascade of tests, so where it is not 0 it is one of the cascade's numbers: the one of the first test that applies.
+-- A refusal is the number of the first test that applies in a chain of tests. So where it is not 0 it is one of the numbers of the chain.
 -- Assumes nothing.
 use mathlib.Core.Path.{_≡_, refl}
 use mathlib.Core.Bool.{Bool, true, false, cond, _||_}

@@ -1,4 +1,4 @@
--- Demand 1 of the writer and the reply check: the first number that the cascade of tests gives is the answer, and only where there is none is anything
+-- Demand 1 of the writer and the reply check: the answer is the number of the first test that applies, and only where none does is anything
 -- written. So the output after a refusal is the one handed in.
 -- Assumes nothing.
 use mathlib.Core.Path.{_≡_, refl, subst}

@@ -1,5 +1,5 @@
--- Demand 1 of whole requests: the lowest refusal that applies is given before anything is judged, and else the verdict's discard; so a refused answer is that
--- number, a discard is the verdict's, and neither writes table or reply.
+-- Demand 1 of whole requests: the lowest refusal that applies is given before anything is judged, and where none does, the discard of the verdict.
+-- So a refused answer has that number, a discard is the verdict's, and neither writes table or reply buffer.
 -- Assumes nothing.
 use mathlib.Core.Path.{_≡_, refl, sym, ap, subst, _∙_}
 use mathlib.Core.Bool.{Bool, true, false, cond, false≢true}
@@ -27,7 +27,7 @@ use Rattle.das_handle.specs.Refusals.{refusalOf}
 use Rattle.das_handle.specs.Handle.{answerOf, tableAs, handleAnswer, handleTable, handleReply}
 use Rattle.thm_demands.specs.Demand1.{Handling}
 use Rattle.thm_demands.proofs.Cascades.{none-of, one-more}
-use Rattle.thm_demands.proofs.Discarding.{Among, verdict-among}
+use Rattle.thm_demands.proofs.DiscardNumbers.{Among, verdict-among}
 
 abbrev isRefused : D.Answer → Bool
 isRefused (A.Refused n) = true

@@ -1,5 +1,5 @@
 pub mod Cascades
-pub mod Discarding
+pub mod DiscardNumbers
 pub mod Handled
 pub mod Replied
 pub mod Carried
@@ -7,11 +7,11 @@ pub mod Acked
 pub mod Silent
 pub mod Second
 pub mod Exchanged
-pub mod Quitting
-pub mod Telling
+pub mod MoveEnds
+pub mod AnswerKinds
 pub mod Stepped
 pub mod Opened
 pub mod Started
 pub mod Scheduled
-pub mod Holding
+pub mod HeldArrays
 pub mod First

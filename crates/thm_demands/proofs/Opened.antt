@@ -1,5 +1,5 @@
--- Demand 1 of an opening: first the store's length and a free job are asked for, then the packet's form, and only behind both does it take a job and copy the
--- packet. So a refusal and a discard leave scheduler and store.
+-- Demand 1 of an opening: it tests first the store's length and that a job is free, then the packet's form, and only after both does it take a job
+-- and copy the packet. So a refusal and a discard leave scheduler and store.
 -- Assumes nothing.
 use mathlib.Core.Path.{_≡_, refl, subst}
 use mathlib.Core.Bool.{Bool, true, false, cond, not}
@@ -17,8 +17,8 @@ use Rattle.sched_state.specs.Scheduler.{openAt, lowestFree}
 use Rattle.sched_state.specs.Refusals.{openRefusal}
 use Rattle.sched_state.specs.Calls.{called, openCalled, openStore}
 use Rattle.thm_demands.proofs.Cascades.{none-of, one-more}
-use Rattle.thm_demands.proofs.Discarding.{form-one}
-use Rattle.thm_demands.proofs.Telling.{WhenRefused, WhenDiscarded}
+use Rattle.thm_demands.proofs.DiscardNumbers.{form-one}
+use Rattle.thm_demands.proofs.AnswerKinds.{WhenRefused, WhenDiscarded}
 
 refusal-one : (f : ℕ → Bool) (size : ℕ) → (openRefusal f size ≡ 0 → ⊥) → member (openRefusal f size) (5 ∷ 6 ∷ []) ≡ true
 unfolding openRefusal

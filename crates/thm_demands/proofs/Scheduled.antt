@@ -1,5 +1,5 @@
--- Demand 1 of the calls on a scheduler: each tests its refusals first and gives the first that applies, with all that was lent as it came. Here making and a
--- drop; an opening, a step, and a session's start and end have files of their own.
+-- Demand 1 of the calls on a scheduler: each tests its refusals first and gives the first that applies, with all that was lent as it came. Here
+-- making and a drop; an opening, a step, and a session's start and end have files of their own.
 -- Assumes nothing.
 use mathlib.Core.Path.{_≡_, refl, subst}
 use mathlib.Core.Bool.{Bool, true, false, cond, not, _||_}
@@ -18,7 +18,7 @@ use Rattle.sched_state.specs.Calls.{called, dropCalled}
 use Rattle.das_answer.specs.declared.Answer.the-variants as A
 use Rattle.sched_job.specs.Job.{freeJob}
 use Rattle.thm_demands.specs.Demand1.{Scheduling}
-use Rattle.thm_demands.proofs.Telling.{WhenRefused}
+use Rattle.thm_demands.proofs.AnswerKinds.{WhenRefused}
 use Rattle.thm_demands.proofs.Stepped.{step-refused, step-refusals, step-comes, step-answers}
 use Rattle.thm_demands.proofs.Started.{start-refused, start-refusals, end-refused, end-refusals}
 use Rattle.thm_demands.proofs.Opened.{open-refused, open-refusals, open-discarded, open-discards}

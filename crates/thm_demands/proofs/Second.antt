@@ -1,4 +1,5 @@
--- Demand 2: the definitions say it, and the laws of the handler, the replies, the effects and the exchanges give each field.
+-- Demand 2: the definitions say it, and each field follows from the laws on handling, on replies, on the sessions that are changed, and on requests
+-- from our writer and replies to our check.
 -- Assumes nothing.
 use mathlib.Core.Path.{_≡_, refl, ap, _∙_}
 use mathlib.Core.Bool.{true, false}

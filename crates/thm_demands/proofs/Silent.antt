@@ -1,4 +1,4 @@
--- An answer without a reply is a refusal or a discard, and leaves table and reply buffer by its own clause of the definitions.
+-- An answer without a reply is a refusal or a discard, and for each of these the definitions leave table and reply buffer as they are.
 -- Assumes nothing.
 use mathlib.Core.Path.{_≡_, refl, sym}
 use mathlib.Core.Bool.{true, true≢false}

@@ -1,4 +1,5 @@
--- Demand 1 of a session start and a session end: the table's own answer decides. Its refusal is the call's, and then neither table nor scheduler is touched.
+-- Demand 1 of a session start and a session end: the answer of the session table decides. Where that is a refusal, it is the call's, and neither
+-- table nor scheduler is changed.
 -- Assumes nothing.
 use mathlib.Core.Path.{_≡_, refl, ap, subst}
 use mathlib.Core.Bool.{Bool, true, false, cond, not, _&&_}
@@ -17,7 +18,7 @@ use Rattle.sched_state.specs.declared.Scheduler as D
 use Rattle.sched_state.specs.declared.Called as C
 use Rattle.sched_state.specs.declared.Outcome.the-variants as O
 use Rattle.sched_state.specs.Calls.{called, startedAs, startCalled, endedAs, endCalled}
-use Rattle.thm_demands.proofs.Telling.{WhenRefused}
+use Rattle.thm_demands.proofs.AnswerKinds.{WhenRefused}
 
 -- ---- a session start
 

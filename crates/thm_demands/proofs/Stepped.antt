@@ -1,5 +1,5 @@
--- Demand 1 of a step: a refusal is the first number of its cascade, and then nothing is touched; a discard is that of the job's move, which frees the job, leaves
--- the table and writes no reply.
+-- Demand 1 of a step: a refusal is the number of the first test that applies, and then nothing is changed; a discard is that of the job's move,
+-- which frees the job, leaves the table and writes no reply.
 -- Assumes nothing.
 use mathlib.Core.Path.{_≡_, refl, ap, subst}
 use mathlib.Core.Bool.{Bool, true, false, cond, not, _||_}
@@ -25,8 +25,8 @@ use Rattle.sched_state.specs.Refusals.{stepRefusal, dropRefusal}
 use Rattle.sched_state.specs.Calls.{called, steppedAs, movedOf, stepCalled, stepTable, stepReply}
 use Rattle.thm_demands.specs.Demand1.{Comes}
 use Rattle.thm_demands.proofs.Cascades.{none-of, one-more}
-use Rattle.thm_demands.proofs.Telling.{WhenRefused, WhenDone}
-use Rattle.thm_demands.proofs.Quitting.{QuitAs, move-quits, move-ends}
+use Rattle.thm_demands.proofs.AnswerKinds.{WhenRefused, WhenDone}
+use Rattle.thm_demands.proofs.MoveEnds.{QuitAs, move-quits, move-ends}
 
 refusal-one : (f : ℕ → Bool) (size j : ℕ) (t b : List ℕ) → (stepRefusal f size j t b ≡ 0 → ⊥) → member (stepRefusal f size j t b) (1 ∷ 4 ∷ 5 ∷ 7 ∷ []) ≡ true
 unfolding stepRefusal dropRefusal

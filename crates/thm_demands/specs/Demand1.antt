@@ -1,7 +1,8 @@
--- Demand 1, as one record: "What cannot be handled is discarded (D1 to D6) or refused (R1 to R13) under document 01's numbers, in its order, and then the session
--- table, the reply buffer and the packet store stay as they were." For each call: which number it gives where one applies (`refused`, `discarded`: the lowest,
--- or first, by the definition named), that it gives a number only then (`refusals`, `discards`), and that what was lent then equals what was handed in. A
--- step is lent the store to read alone. That no call faults or hangs is the prover's own claim for every function of the library.
+-- Demand 1, as one record: "What cannot be handled is discarded (D1 to D6) or refused (R1 to R13) under document 01's numbers, in its order, and
+-- then the session table, the reply buffer and the packet store stay as they were." For each call: which number it gives where one applies
+-- (`refused`, `discarded`: the lowest, or first, by the definition named), that it gives a number only then (`refusals`, `discards`), and that what
+-- was lent then equals what was handed in. A step is lent the store to read alone. That no call faults or hangs is the prover's own claim for every
+-- function of the library.
 -- Assumes nothing.
 use mathlib.Core.Bool.{true, false}
 use mathlib.Core.List.{List, [], _∷_}

@@ -1,6 +1,7 @@
--- Demand 2, as one record: "Requests are judged by RFC 3576 with RFC 2865, as 01 condenses them: discarded exactly for the causes D1 to D6, answered NAK with
--- the first cause that applies, else acknowledged, with exactly the matching sessions ended or altered."
--- g is what the gate is set up with, t the table, b the reply buffer, p the request, clock the clock reading. The code's contract is these definitions.
+-- Demand 2, as one record: "Requests are judged by RFC 3576 with RFC 2865, as 01 condenses them: discarded exactly for the causes D1 to D6,
+-- answered NAK with the first cause that applies, else acknowledged, with exactly the matching sessions ended or altered."
+-- g is what the gate is set up with, t the table, b the reply buffer, p the request, clock the clock reading. The code's contract is these
+-- definitions.
 -- Assumes nothing.
 use mathlib.Core.Bool.{true, false, cond}
 use mathlib.Core.List.{List, _++_}
@@ -72,7 +73,7 @@ pub record Carries (secret p r : List ℕ) (c : Cause) : Type 0 where
 
 -- one request, handled whole
 pub record Judging (g : Settings) (t b p : List ℕ) (clock : ℕ) : Type 0 where
-  -- a refusal comes before any judgement; else the verdict of D1 to D6 and causes 1 to 6, and behind it cause 7, decide
+  -- a refusal comes before any judgement; else the verdict of D1 to D6 and causes 1 to 6, and after it cause 7, decide
   pub refused : (refusalOf g t b ≡ 0 → ⊥) → handleAnswer g t b p clock ≡ Refused (refusalOf g t b)
   pub judged : refusalOf g t b ≡ 0 → handleAnswer g t b p clock ≡ answerOf p t (verdictOf g (signedBy (g .secret) p) p clock)
   -- a discard or a refusal leaves table and reply as they were; a NAK leaves the table

@@ -29,7 +29,7 @@ module _ (secret q : List ℕ) (n : ℕ) (c : Cause) (sized : Sized q n) (short 
   code : ℕ
   code = codeOf q + cond (applies c) 2 1
 
-  good-length : badLength (replyOf secret q c) ≡ false
+  pub good-length : badLength (replyOf secret q c) ≡ false
   unfolding headOf code
   good-length =
       rw (reply-is secret q c)

@@ -31,7 +31,7 @@ module _ (secret out : List ℕ) (d : Draft) (accepted : writeRefusal secret out
   good : badGiven d ≡ false
   good = taken secret out d accepted .given
 
-  sized : Sized (requestOf secret d) (requestLength d)
+  pub sized : Sized (requestOf secret d) (requestLength d)
   sized =
       let l = length-request secret d in
       record {

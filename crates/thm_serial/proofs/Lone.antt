@@ -1,4 +1,5 @@
--- A lone job is finished by its 132nd step: no other job can send it back, so what its stage leaves is all that is left.
+-- A lone job is finished by its 132nd step: no other job is open that could send it back to slot 0, so the steps that its stage leaves are all that
+-- it takes.
 -- Assumes nothing.
 use mathlib.Core.Path.{_≡_, refl}
 use mathlib.Core.Bool.{true, false, true≢false}
@@ -16,7 +17,7 @@ use Rattle.sched_state.specs.Runs.{Call, run}
 use Rattle.thm_serial.specs.Demand3.{quiet, stepsTaken, world, later, New}
 use Rattle.thm_serial.proofs.Potential.{left, opens, total, pairs, potential, left-most, opens-most, all-finished}
 use Rattle.thm_serial.proofs.Whole.{whole}
-use Rattle.thm_serial.proofs.Spending.{run-spent}
+use Rattle.thm_serial.proofs.StepBound.{run-spent}
 
 -- ---- sums over jobs of which only one is open
 

@@ -1,5 +1,5 @@
--- Who is left alone (document 01, "The desk"), whatever was written to table and store. Only an ACK restarts others, by the definition of a step: one that goes on, a NAK, a
--- discard and a refused one change no job but their own. A drop changes nothing but its job.
+-- Which jobs a call leaves alone (document 01, "The desk"), whatever was written to table and store. By the definition of a step only an ACK
+-- restarts others: a step that goes on, a NAK, a discard and a refused step change no job but their own. A drop changes nothing but its job.
 -- Assumes nothing.
 use mathlib.Core.Path.{_≡_, refl}
 use mathlib.Core.Bool.{Bool, true, false, cond, true≢false}

@@ -1,5 +1,5 @@
--- Opening copies a packet's Length bytes to the front of its job's part of the store. So that part begins with the packet, and as a part ends where the
--- next begins and the packet is no longer than a part, every other part stays.
+-- Opening copies a packet's Length bytes to the start of its job's part of the store. So that part begins with the packet, and as a part ends where
+-- the next begins and the packet is no longer than a part, every other part stays.
 -- Assumes nothing.
 use mathlib.Core.Path.{_≡_, refl, _∙_}
 use mathlib.Core.Logic.{_≢_}
@@ -19,7 +19,7 @@ use Rattle.packet_form.specs.Discards.{formOf, Sized}
 use Rattle.sched_state.specs.Scheduler.{partOf}
 use Rattle.thm_serial.proofs.Same.{SamePacket, form-sized, same-packet}
 
--- the front of a part
+-- the first bytes of a part
 front : (n m at : ℕ) (l : List ℕ) → n ≤ m → take n (part at m l) ≡ part at n l
 unfolding part
 front n m at l h = take-take n m (drop at l) h

@@ -1,5 +1,5 @@
--- How many steps the jobs of a list may still take: each job what its stage leaves (66 blocks, Check, 64 slots, Commit), and for each two open jobs 64 more,
--- since each of the two may finish once and send the other back to slot 0 before that. With four jobs that is 4 · 132 + 64 · 6 = 912.
+-- A bound on the steps that the open jobs may still take: each job what its stage leaves (66 blocks, Check, 64 slots, Commit), and for each two
+-- open jobs 64 more, since one of the two finishes first and may send the other back to slot 0. With four jobs that is 4 · 132 + 64 · 6 = 912.
 -- Assumes nothing.
 use mathlib.Core.Path.{_≡_, refl}
 use mathlib.Core.Bool.{Bool, true, false, false≢true}
@@ -12,7 +12,7 @@ use Rattle.sched_job.specs.declared.Stage as S
 use Rattle.sched_job.specs.declared.Stage.the-variants.{Free, Hash, Check, Match}
 use Rattle.sched_job.specs.Job.{isOpen, restartedAt, restarted}
 use Rattle.sched_state.specs.Scheduler.{jobAt, openAt}
-use Rattle.thm_serial.proofs.Tying.{restarted-open, open-below}
+use Rattle.thm_serial.proofs.Invariant.{restarted-open, open-below}
 
 -- the steps that a job at a stage may still take, if nothing sends it back
 abbrev pub left : S.Stage → ℕ
@@ -32,7 +32,7 @@ unfoldable pub total : (S.Stage → ℕ) → List B.Job → ℕ
 total f [] = 0
 total f (x ∷ js) = f (x .stage) + total f js
 
--- the pairs of m
+-- how many pairs m jobs make
 unfoldable pub pairs : ℕ → ℕ
 pairs zero = 0
 pairs (suc m) = m + pairs m
@@ -81,7 +81,7 @@ unfolding total
 opens-restarted [] = refl
 opens-restarted (x ∷ js) = rw (restarted-open x, opens-restarted js)
 
--- ---- what it is at most
+-- ---- the bound is at most 912
 
 pub pairs-more : (m n : ℕ) → n ≡ suc m → pairs n ≡ m + pairs m
 unfolding pairs
@@ -115,7 +115,7 @@ potential-most js e =
     let c : total opens js ≤ 4 = omega (arith, total-most opens 1 opens-most js) in
     omega (arith, total-most left 132 left-most js, pairs-most (total opens js) c)
 
--- ---- where none is left, no job is open
+-- ---- where no step is left, no job is open
 
 pub open-left : (x : S.Stage) → isOpen x ≡ true → 0 < left x
 open-left Free h = absurd (false≢true h)

@@ -1,4 +1,5 @@
--- Demand 3, proved: the two agree on every list of calls, and with at most 912 steps left the 912th finishes the last open request.
+-- Demand 3, proved: the scheduler and the serial execution agree on every list of calls, and as at most 912 steps can be left, the 912th finishes
+-- the last open request.
 -- Assumes nothing.
 use mathlib.Core.Path.{_≡_, sym, ap, _∙_}
 use mathlib.Core.Bool.{Bool, true, false}
@@ -16,7 +17,7 @@ use Rattle.thm_serial.specs.Serial.{Serial, notedAt}
 use Rattle.thm_serial.specs.Demand3.{quiet, stepsTaken, world, serially, New, Demand3}
 use Rattle.thm_serial.proofs.Potential.{potential-most, all-finished}
 use Rattle.thm_serial.proofs.Whole.{whole, run-behind, notes-open}
-use Rattle.thm_serial.proofs.Spending.{run-spent}
+use Rattle.thm_serial.proofs.StepBound.{run-spent}
 
 module _ (s : D.Scheduler) (new : New s) (cs ds : List Call) (t store : List ℕ) where
   abbrev between : World

@@ -1,5 +1,6 @@
--- Two packets with the same first Length bytes are the same packet to every rule: Length, code, identifier, authenticator and attributes all lie there,
--- and the rules look at nothing else. So a part of the store that begins with a packet's Length bytes is judged and answered as that packet is.
+-- Two packets with the same first Length bytes are the same packet to every rule: Length, code, identifier, authenticator and attributes all lie
+-- there, and the rules look at nothing else. So a part of the store that begins with a packet's Length bytes is judged and answered as that packet
+-- is.
 -- Assumes nothing.
 use mathlib.Core.Path.{_≡_, refl, sym, ap, _∙_}
 use mathlib.Core.Bool.{true, false}
@@ -82,7 +83,7 @@ module _ (p q : List ℕ) (good : formOf p ≡ 0) (room : length q ≡ 4096) (sa
         form = form-is ∙ good;
       }
 
--- so it holds when read again
+-- so it is found unaltered when it is read again
 pub same-holds : (p q : List ℕ) → SamePacket p q → holds (lengthOf p) q ≡ true
 unfolding holds
 same-holds p q s = rw (s .form, s .long, eq-eqb (lengthOf p) (lengthOf p) refl)

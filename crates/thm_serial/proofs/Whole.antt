@@ -1,4 +1,5 @@
--- Every list of calls on a newly made scheduler agrees with the serial execution: a new scheduler is tied to no notes, and each call keeps the tie.
+-- Every list of calls on a newly made scheduler agrees with the serial execution: the invariant between them holds of a new scheduler and no notes,
+-- and each call keeps it.
 -- Assumes nothing.
 use mathlib.Core.Path.{_≡_, refl, sym, ap, _∙_}
 use mathlib.Core.Bool.{false}
@@ -15,9 +16,9 @@ use Rattle.sched_state.specs.Scheduler.{settingsOf, jobAt, openAt, Ours}
 use Rattle.sched_state.specs.Runs.{Call, World, Ran, call, run}
 use Rattle.thm_serial.specs.Serial.{Note, unnoted, Serial, SerialRan, notedAt, serialCall, serialRun}
 use Rattle.thm_serial.specs.Demand3.{finished, world, serially, New}
-use Rattle.thm_serial.proofs.Tying.{Made, serialOf, flags, Tied}
-use Rattle.thm_serial.proofs.Agreeing.{Agree}
-use Rattle.thm_serial.proofs.Calling.{call-agrees}
+use Rattle.thm_serial.proofs.Invariant.{Made, serialOf, flags, Tied}
+use Rattle.thm_serial.proofs.Agreement.{Agree}
+use Rattle.thm_serial.proofs.CallAgreement.{call-agrees}
 
 pub record Same (d : Ran) (k : SerialRan) : Type 0 where
   pub outs-are : d .outs ≡ k .outs
@@ -33,7 +34,7 @@ runs (c ∷ cs) n w ns z h =
     let r = runs cs n (call c w .world) (a .notes) (a .size) (a .tied) in
     rw (← (a .out-is), a .serial-is) record { outs-are = ap (_∷_ (call c w .out)) (r .outs-are); notes = r .notes; serial-is = r .serial-is; tied = r .tied }
 
--- a list of calls behind another
+-- a list of calls after another
 pub run-behind : (cs ds : List Call) (w : World) → run (cs ++ ds) w .world ≡ run ds (run cs w .world) .world
 unfolding run
 run-behind [] ds w = refl

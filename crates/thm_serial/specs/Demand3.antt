@@ -1,5 +1,5 @@
--- Demand 3, as one record: every list of calls on a newly made scheduler equals the serial execution, and all open requests are finished by the 912th
--- further step that is not refused.
+-- Demand 3, as one record: for every list of calls on a newly made scheduler, the answers, the reply buffers and the table are those of the serial
+-- execution (`Serial.antt`), and all open requests are finished by the 912th further step that is not refused.
 -- Assumes nothing.
 use mathlib.Core.Bool.{Bool, true, false, _&&_}
 use mathlib.Core.List.{List, [], _∷_, _++_, map}

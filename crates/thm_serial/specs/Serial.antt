@@ -1,6 +1,6 @@
--- The serial execution (document 01's plain book): each finished request is handled whole, as demand 2 gives it, at the call that finished it, with the
--- packet and clock of its opening. It is told a call's arguments, the store's length, and of a step whether it finished; of scheduler, caller's table and
--- store bytes nothing.
+-- The serial execution (document 01's plain book): each finished request is handled whole, as demand 2 gives it, at the call that finished it, with
+-- the packet and clock of its opening. It is told a call's arguments, the store's length, and of a step whether it finished; of scheduler, caller's
+-- table and store bytes nothing.
 -- Assumes nothing.
 use mathlib.Core.Bool.{Bool, true, false, cond}
 use mathlib.Core.List.{List, [], _∷_}

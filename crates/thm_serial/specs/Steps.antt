@@ -1,4 +1,4 @@
--- What a step tells, and what its job awaits: the words in which the laws of steps are stated.
+-- Terms in which the laws on steps are stated: a step finished in ACK, a step finished with a reply, a job awaits Commit.
 -- Assumes nothing.
 use mathlib.Core.Bool.{Bool, false, not}
 use mathlib.Core.List.{List}
