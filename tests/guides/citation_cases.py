@@ -1,7 +1,7 @@
 """The guides: every file and name that they cite exists, every row of the trace shows something, every quotation is traced,
 and the reading guide leaves no definition out."""
 from tests import ROOT
-from tests.guides.citations import Repository, citations, crates_listed, decisions, paragraphs, plain, quotations, row_fault, rows
+from tests.guides.citations import Repository, citations, crates_listed, decisions, indexed, paragraphs, plain, quotations, row_fault, rows
 
 TRACE, READING = "docs/TRACE.md", "docs/READING.md"
 
@@ -51,6 +51,13 @@ def listed(probe, tally):
         tally.same((names.count(crate), repository.crates.count(crate)), (1, 1), "README's table and crates.txt have", crate)
 
 
+def ordered(probe, tally):
+    """The decisions stand in the order of their numbers, none is left out, and the index names each."""
+    numbers = Repository(ROOT).decisions()
+    tally.same(numbers, list(range(1, len(numbers) + 1)), "the numbers of the decisions")
+    tally.same(sorted(indexed((ROOT / "docs/DECISIONS.md").read_text())), numbers, "the numbers in the index of the decisions")
+
+
 GROUPS = [
     ("citations of the trace", cited(TRACE)),
     ("citations of the reading guide", cited(READING)),
@@ -59,4 +66,5 @@ GROUPS = [
     ("definitions in the reading guide", read),
     ("README's table of crates", listed),
     ("decisions that README cites", cited("README.md", decisions)),
+    ("order and index of the decisions", ordered),
 ]

@@ -2,7 +2,7 @@
 import tempfile
 from pathlib import Path
 
-from tests.guides.citations import Repository, citations, crates_listed, paragraphs, plain, quotations, row_fault, rows
+from tests.guides.citations import Repository, citations, crates_listed, indexed, paragraphs, plain, quotations, row_fault, rows
 
 FILES = {
     "crates.txt": "# a floor\nmade:\nother: made\n",
@@ -71,10 +71,18 @@ def readme(probe, tally):
     tally.same(crates_listed(text), ["made", "other", "made"], "a crate listed twice")
 
 
+def index(probe, tally):
+    text = "| subject | entries |\n|---|---|\n| one and 4 | 1, 3 |\n| two | 2 |\n\n5. **Five.**\n"
+    tally.same(indexed(text), {1, 2, 3}, "an index")
+    with tempfile.TemporaryDirectory() as folder:
+        tally.same(made(folder).decisions(), [1, 2], "the decisions, in the order of the file")
+
+
 GROUPS = [
     ("the citations: each kind, right and wrong", kinds),
     ("the citations: rows that show nothing", table_rows),
     ("the citations: paragraphs", lines),
     ("the citations: quotations", quotes),
     ("the citations: README's table", readme),
+    ("the citations: the index of the decisions", index),
 ]
