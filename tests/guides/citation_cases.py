@@ -1,9 +1,21 @@
 """The guides: every file and name that they cite exists, every row of the trace shows something, every quotation is traced,
-and the reading guide leaves no definition out."""
-from tests import ROOT
-from tests.guides.citations import Repository, citations, crates_listed, decisions, indexed, paragraphs, plain, quotations, row_fault, rows
+the reading guide leaves no definition out, and README no rule; what they count is so."""
+import re
 
-TRACE, READING = "docs/TRACE.md", "docs/READING.md"
+from tests import ROOT
+from tests.guides.citations import Repository, citations, decisions, indexed, paragraphs, plain, quotations, row_fault, rows
+from tests.guides.edits import counted
+from tests.guides.tables import broken, in_family, listed, rule_fault, rules
+
+TRACE, READING, README = "docs/TRACE.md", "docs/READING.md", "README.md"
+RULES = [
+    *[f"{letter}{number}" for letter, most in [("D", 6), ("R", 13), ("V", 6)] for number in range(1, most + 1)],
+    *[f"cause {number}" for number in range(1, 8)], "401", "405", "404", "403", "402", "506", "503", "the reply", "MD5", "HMAC-MD5", "session table",
+    "Hash", "Check", "Match", "Commit", "demand 1", "demand 2", "demand 3", "marked examples",
+]
+EDITS = re.compile(
+    r"Of the (\d+) edits (\d+) change code; the other (\d+) change no code: (\d+) change a definition or a claim, (\d+) a promise\."
+)
 
 
 def judge(tally, place, what, fault):
@@ -12,6 +24,10 @@ def judge(tally, place, what, fault):
         print(f"   {place}: {what}: {fault}")
     tally.failed += bool(fault)
     tally.passed += not fault
+
+
+def readme():
+    return (ROOT / README).read_text()
 
 
 def cited(name, kind=citations):
@@ -44,11 +60,46 @@ def read(probe, tally):
             judge(tally, READING, name, None if f"`{name}`" in guide else "named nowhere")
 
 
-def listed(probe, tally):
+def ruled(probe, tally):
+    """Each rule has its row in README, and what a row names exists."""
     repository = Repository(ROOT)
-    names = crates_listed((ROOT / "README.md").read_text())
-    for crate in {*repository.crates, *names}:
-        tally.same((names.count(crate), repository.crates.count(crate)), (1, 1), "README's table and crates.txt have", crate)
+    rows = rules(readme())
+    for number, names, definition, code in rows:
+        judge(tally, f"{README}:{number}", names[0], rule_fault(definition, code))
+        for span, fault in citations(repository, definition) + citations(repository, code):
+            judge(tally, f"{README}:{number}", span, fault)
+    for rule in RULES:
+        tally.same(sum(rule in names for _, names, _, _ in rows), 1, "rows of README's table for", rule)
+
+
+def families(probe, tally):
+    names, crates = listed(readme(), "crates"), Repository(ROOT).crates
+    for crate in crates:
+        tally.same(sum(in_family(crate, name) for name in names), 1, "families in README of the crate", crate)
+    for name in names:
+        tally.same(any(in_family(crate, name) for crate in crates), True, "a crate of the family", name)
+
+
+def folders(probe, tally):
+    """README has a line for each folder of the root, tests/README.md for each folder of tests."""
+    for guide, root, apart in [(README, ROOT, {"crates", "target"}), ("tests/README.md", ROOT / "tests", {"__pycache__"})]:
+        there = [place for place in root.iterdir() if place.is_dir() and not place.name.startswith(".") and place.name not in apart]
+        names = sorted(str(place.relative_to(ROOT)) for place in there)
+        tally.same(sorted(listed((ROOT / guide).read_text(), "folder")), names, "the folders that", guide, "lists")
+
+
+def rendered(probe, tally):
+    for place in [ROOT / README, ROOT / "CHANGELOG.md", ROOT / "tests/README.md", *sorted(ROOT.glob("docs/*.md"))]:
+        text = place.read_text()
+        tally.same(list(broken(text)), [], "broken tables in", place.name)
+
+
+def edited(probe, tally):
+    """README tells how many edits change code, and how many what is claimed."""
+    said = EDITS.search(" ".join(readme().split()))
+    every, claims, promises = counted(ROOT)
+    wanted = [every, every - claims - promises, claims + promises, claims, promises]
+    tally.same([int(number) for number in said.groups()] if said else None, wanted, "README's count of the edits")
 
 
 def ordered(probe, tally):
@@ -64,7 +115,11 @@ GROUPS = [
     ("rows of the trace", shown),
     ("quotations of the reading guide", quoted),
     ("definitions in the reading guide", read),
-    ("README's table of crates", listed),
-    ("decisions that README cites", cited("README.md", decisions)),
+    ("README's table of rules", ruled),
+    ("README's families of crates", families),
+    ("folders in the guides", folders),
+    ("tables that can be shown", rendered),
+    ("must-fail edits that README counts", edited),
+    ("decisions that README cites", cited(README, decisions)),
     ("order and index of the decisions", ordered),
 ]

@@ -2,7 +2,7 @@
 import tempfile
 from pathlib import Path
 
-from tests.guides.citations import Repository, citations, crates_listed, indexed, paragraphs, plain, quotations, row_fault, rows
+from tests.guides.citations import Repository, citations, indexed, paragraphs, plain, quotations, row_fault, rows
 
 FILES = {
     "crates.txt": "# a floor\nmade:\nother: made\n",
@@ -66,11 +66,6 @@ def quotes(probe, tally):
     tally.same(plain("All *house*  rules"), "All house rules", "plain words")
 
 
-def readme(probe, tally):
-    text = "| `crates/made` | x |\n| `crates/other`, `made`, `include/` | y |\n| `tests/` | z |\n"
-    tally.same(crates_listed(text), ["made", "other", "made"], "a crate listed twice")
-
-
 def index(probe, tally):
     text = "| subject | entries |\n|---|---|\n| one and 4 | 1, 3 |\n| two | 2 |\n\n5. **Five.**\n"
     tally.same(indexed(text), {1, 2, 3}, "an index")
@@ -83,6 +78,5 @@ GROUPS = [
     ("the citations: rows that show nothing", table_rows),
     ("the citations: paragraphs", lines),
     ("the citations: quotations", quotes),
-    ("the citations: README's table", readme),
     ("the citations: the index of the decisions", index),
 ]

@@ -154,10 +154,3 @@ def quotations(text):
         for quoted in re.findall(r'"([^"]+)"', SPAN.sub("", words)):
             if len(quoted.split()) >= 3:
                 yield number, quoted
-
-
-def crates_listed(readme):
-    """The crates of README's table, in its order."""
-    cells = re.findall(r"^\| (`crates/[^|]*)\|", readme, re.M)
-    names = [span.removeprefix("crates/") for cell in cells for span in SPAN.findall(cell)]
-    return [name for name in names if not name.endswith("/")]
