@@ -5,6 +5,7 @@ import re
 from tests import ROOT
 from tests.guides.citations import Repository, citations, decisions, indexed, paragraphs, plain, quotations, row_fault, rows
 from tests.guides.edits import counted
+from tests.guides.reading import definitions, lines, minutes, near, repeated, said, to_read, told_repeated
 from tests.guides.tables import broken, in_family, listed, rule_fault, rules
 
 TRACE, READING, README = "docs/TRACE.md", "docs/READING.md", "README.md"
@@ -96,10 +97,27 @@ def rendered(probe, tally):
 
 def edited(probe, tally):
     """README tells how many edits change code, and how many what is claimed."""
-    said = EDITS.search(" ".join(readme().split()))
+    sentence = EDITS.search(" ".join(readme().split()))
     every, claims, promises = counted(ROOT)
     wanted = [every, every - claims - promises, claims + promises, claims, promises]
-    tally.same([int(number) for number in said.groups()] if said else None, wanted, "README's count of the edits")
+    tally.same([int(number) for number in sentence.groups()] if sentence else None, wanted, "README's count of the edits")
+
+
+def figures(probe, tally):
+    """The reading guide's minutes, and how much there is to read."""
+    guide = (ROOT / READING).read_text()
+    whole, files, long = said(guide)
+    read = to_read(guide, definitions(ROOT))
+    tally.same(minutes(guide), whole, "the minutes of all parts")
+    for what, told, found in [("files", files, len(read)), ("lines", long, sum(map(lines, read.values())))]:
+        judge(tally, READING, f"{told} {what} to be read", None if near(told, found) else f"there are {found}")
+
+
+def twice(probe, tally):
+    """Which names are defined in more than one file."""
+    found, told = repeated(definitions(ROOT)), told_repeated((ROOT / READING).read_text())
+    for name in sorted({*found, *told}):
+        tally.same(sorted(told.get(name, ())), sorted(found.get(name, ())), "files that define", name)
 
 
 def ordered(probe, tally):
@@ -115,6 +133,8 @@ GROUPS = [
     ("rows of the trace", shown),
     ("quotations of the reading guide", quoted),
     ("definitions in the reading guide", read),
+    ("figures of the reading guide", figures),
+    ("names that are defined more than once", twice),
     ("README's table of rules", ruled),
     ("README's families of crates", families),
     ("folders in the guides", folders),

@@ -2,7 +2,7 @@
 Its last line is the count."""
 import sys
 
-from tests.guides import citation_cases, citation_self_cases, table_self_cases, times_self_cases
+from tests.guides import citation_cases, citation_self_cases, reading_self_cases, table_self_cases, times_self_cases
 from tests.harness import runner
 
-sys.exit(runner.run(None, [citation_self_cases, table_self_cases, times_self_cases, citation_cases]))
+sys.exit(runner.run(None, [citation_self_cases, table_self_cases, times_self_cases, reading_self_cases, citation_cases]))
