@@ -5,7 +5,7 @@ from pathlib import Path
 from tests.guides.citations import Repository, citations, indexed, paragraphs, plain, quotations, row_fault, rows
 
 FILES = {
-    "crates.txt": "# a floor\nmade:\nother: made\n",
+    "crates.txt": "# level 0\nmade:\nother: made\n",
     "Makefile": "demo:\n\ttrue\n",
     "docs/DECISIONS.md": "1. **One.** As 7. **no entry**\n2. **Two.**\n",
     "crates/made/specs/Facts.antt": "-- spoken : of\nunfoldable pub fact : ℕ\nfact = said\n\npub record Rec (a : ℕ) : Type 0 where\n  pub field : a ≡ 0\n",
