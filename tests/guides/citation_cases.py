@@ -4,7 +4,7 @@ import re
 
 from tests import ROOT
 from tests.guides.citations import Repository, citations, decisions, indexed, paragraphs, plain, quotations, row_fault, rows
-from tests.guides.edits import counted
+from tests.guides.edits import counted, edit_fault, edits
 from tests.guides.reading import definitions, lines, minutes, near, repeated, said, to_read, told_repeated
 from tests.guides.tables import broken, in_family, listed, rule_fault, rules
 
@@ -98,9 +98,15 @@ def rendered(probe, tally):
 def edited(probe, tally):
     """README tells how many edits change code, and how many what is claimed."""
     sentence = EDITS.search(" ".join(readme().split()))
-    every, claims, promises = counted(ROOT)
+    every, claims, promises = counted(edits(ROOT))
     wanted = [every, every - claims - promises, claims + promises, claims, promises]
     tally.same([int(number) for number in sentence.groups()] if sentence else None, wanted, "README's count of the edits")
+
+
+def fitting(probe, tally):
+    """Each edit can be made: rt would say so too, but only after the proofs."""
+    for name, kinds in edits(ROOT).items():
+        judge(tally, "must-fail", name, edit_fault(kinds))
 
 
 def figures(probe, tally):
@@ -140,6 +146,7 @@ GROUPS = [
     ("folders in the guides", folders),
     ("tables that can be shown", rendered),
     ("must-fail edits that README counts", edited),
+    ("must-fail edits that can be made", fitting),
     ("decisions that README cites", cited(README, decisions)),
     ("order and index of the decisions", ordered),
 ]

@@ -2,7 +2,7 @@
 import tempfile
 from pathlib import Path
 
-from tests.guides.edits import counted
+from tests.guides.edits import counted, edit_fault, edits
 from tests.guides.tables import broken, cells, in_family, listed, rule_fault, rules
 
 TABLE = """| rule | definition | code |
@@ -31,6 +31,12 @@ EDITS = {
     "claim": "# a comment\nfile: specs/Facts.antt\nold: fact\nnew: other\n",
     "claim-and-proof": "file: specs/Facts.antt\nold: fact\nnew: other\nfile: proofs/Laws.antt\nold: law\nnew: other\n",
 }
+MISPLACED = {
+    "gone": "file: src/lib.rt\nold: second(x)\nnew: last(x)\n",
+    "twice": "file: src/lib.rt\nold: u8\nnew: u16\n",
+    "no-file": "file: src/other.rt\nold: first(x)\nnew: last(x)\n",
+    "empty": "# nothing\n",
+}
 
 
 def shown(probe, tally):
@@ -58,11 +64,14 @@ def grouped(probe, tally):
 def kinds(probe, tally):
     with tempfile.TemporaryDirectory() as folder:
         crate = Path(folder) / "crates/made"
-        edits = {f"must-fail/{name}.edit": text for name, text in EDITS.items()}
-        for name, text in {"src/lib.rt": LIB, "specs/Facts.antt": "fact\n", "proofs/Laws.antt": "law\n", **edits}.items():
+        files = {f"must-fail/{name}.edit": text for name, text in {**EDITS, **MISPLACED}.items()}
+        for name, text in {"src/lib.rt": LIB, "specs/Facts.antt": "fact\n", "proofs/Laws.antt": "law\n", **files}.items():
             (crate / name).parent.mkdir(parents=True, exist_ok=True)
             (crate / name).write_text(text)
-        tally.same(counted(Path(folder)), (8, 2, 3), "all edits, of claims, of promises")
+        found = edits(Path(folder))
+        wrong = {name for name, kinds in found.items() if edit_fault(kinds)}
+        tally.same(wrong, {f"made/{name}" for name in MISPLACED}, "edits that cannot be made")
+        tally.same(counted({name: kinds for name, kinds in found.items() if name not in wrong}), (8, 2, 3), "all edits, of claims, of promises")
 
 
 GROUPS = [
