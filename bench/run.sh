@@ -1,5 +1,5 @@
 #!/bin/sh
-# The benchmark: bench/run.sh compare (`make bench`) or record (`make record`). Behind the word, three archives may be named,
+# The benchmark: bench/run.sh compare (`make bench`) or record (`make record`). After the word, three archives may be named,
 # PROBE PROBE_PACKETS LIBRARY: these are measured, and not those that rt writes.
 set -u
 cd "$(dirname "$0")/.." || exit 1

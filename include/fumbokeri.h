@@ -52,7 +52,7 @@
  *
  * ## The session table
  *
- * 1 to 64 slots of FBK_SLOT_SIZE bytes, one behind the other:
+ * 1 to 64 slots of FBK_SLOT_SIZE bytes, one after the other:
  *
  *   | bytes       | content                                              |
  *   |-------------|------------------------------------------------------|
@@ -225,7 +225,7 @@ uint32_t fbk_handle(uint8_t *table, size_t table_len,
  *
  * The request is made of `code`, `identifier`, its Length, the authenticator
  * and the attributes as they are given, and is signed with the secret, ready to
- * be sent. If asked for, a Message-Authenticator (80) is added behind the
+ * be sent. If asked for, a Message-Authenticator (80) is added after the
  * attributes; it is worked out before the authenticator.
  *
  * A gate that has the same secret never discards what is written as 101 to

@@ -18,7 +18,7 @@ uint32_t probe_hmac(const uint8_t *key, size_t key_len, const uint8_t *m, size_t
 
 static const uint8_t key[16] = "sixteen byte key";
 static const size_t sizes[] = {64, 1024, 4096};
-static uint8_t message[4096 + 64]; /* a packet, and a secret behind it */
+static uint8_t message[4096 + 64]; /* a packet, and a secret after it */
 
 static void proved_md5(size_t n, uint8_t *out) { probe_md5(message, n, out, 16); }
 static void proved_hmac(size_t n, uint8_t *out) { probe_hmac(key, sizeof key, message, n, out, 16); }

@@ -19,7 +19,7 @@ struct host {
 /* A packet that came, and what became of it. */
 struct exchange {
     struct sockaddr_in sender;
-    uint8_t packet[FBK_REQUEST_SIZE]; /* a Length is at most this; what a datagram has behind it is padding */
+    uint8_t packet[FBK_REQUEST_SIZE]; /* a Length is at most this; what a datagram has after it is padding */
     size_t packet_len;
     uint32_t answer, changed, reply_len, stamped;
     int64_t skew;

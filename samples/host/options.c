@@ -97,7 +97,7 @@ void read_options(int argc, char **argv, struct options *o)
         if (read_flag(argv[i], o))
             continue;
         if (strncmp(argv[i], "--", 2) == 0) {
-            demand(i + 1 < argc, "no value behind", argv[i]);
+            demand(i + 1 < argc, "no value after", argv[i]);
             read_option(argv[i], argv[i + 1], o);
             i++;
         } else {

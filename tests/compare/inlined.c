@@ -1,4 +1,4 @@
-/* The header's six inline functions, each behind a name by which a test can call it: what firmware compiles of them. */
+/* The header's six inline functions, each under a name by which a test can call it: what firmware compiles of them. */
 #include "../../include/fumbokeri.h"
 
 #ifdef __cplusplus

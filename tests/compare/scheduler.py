@@ -16,7 +16,7 @@ def place(told):
 
 
 def beside(asked, table, store):
-    """The function's name, and what it is given behind the scheduler."""
+    """The function's name, and what it is given after the scheduler."""
     if isinstance(asked, Open):
         return "open", (asked.packet, asked.clock, store, PLACE)
     if isinstance(asked, Step):

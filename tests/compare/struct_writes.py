@@ -62,7 +62,7 @@ def refusals(door):
 def pieces(held):
     """The struct in pieces that a call may or may not write."""
     struct, found = Struct.from_buffer_copy(held), {name: part(held, name) for name in FIELDS if name not in ROWS}
-    found["behind the last field"] = held[Struct.nas_ip.offset + Struct.nas_ip.size:]
+    found["after the last field"] = held[Struct.nas_ip.offset + Struct.nas_ip.size:]
     for k in range(JOBS):
         found["words", k], found["marks", k] = bytes(struct.words[k]), bytes(struct.marks[k])
         (found["kind", k], found["clock", k]), (found["place", k], found["Length", k]) = struct.kinds[k], struct.places[k]

@@ -10,7 +10,7 @@
 #   generated.c                 inputs for the programs of tests/fuzz, which hold the library beside a model; a digest of what comes of them
 set -u
 cd "$(dirname "$0")/../.." || exit 1
-exec 2>&1 # one stream, so that nothing comes behind the last line
+exec 2>&1 # one stream, so that nothing comes after the last line
 room=target/cross
 # shellcheck disable=SC3045 # dash and bash have it
 ulimit -c 0 # a program that is stopped on purpose leaves no file behind

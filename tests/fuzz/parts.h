@@ -1,4 +1,4 @@
-/* A fuzzer's input as a list of parts, each behind its length in two bytes, so that one part is mutated and the others stay. */
+/* A fuzzer's input as a list of parts, each after its length in two bytes, so that one part is mutated and the others stay. */
 #ifndef PARTS_H
 #define PARTS_H
 
@@ -12,7 +12,7 @@ extern const size_t part_count;
 /* Any input will do: a part that is cut short is what there is of it, and one that is not there has no bytes. */
 void split(const uint8_t *data, size_t size, struct bytes parts[]);
 
-/* Reads a part from its front; zeros behind its end. */
+/* Reads a part from its front; zeros after its end. */
 uint32_t take(struct bytes *part, size_t bytes);
 
 /* So many bytes of a part, over and over; zeros where it has none. */

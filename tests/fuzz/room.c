@@ -11,7 +11,7 @@
 #define MARK 0xA5
 
 watcher *watching;
-static uint8_t near[8 * ROOM_MOST], *near_end = near; /* behind the last that is laid NEAR */
+static uint8_t near[8 * ROOM_MOST], *near_end = near; /* after the last that is laid NEAR */
 
 void expect(int is_so, const char *wrong)
 {

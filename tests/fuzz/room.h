@@ -1,4 +1,4 @@
-/* Memory with a fence before and one behind: whoever reads or writes past it stops the process, which libFuzzer reports. */
+/* Memory with a fence before and one after: whoever reads or writes past it stops the process, which libFuzzer reports. */
 #ifndef ROOM_H
 #define ROOM_H
 
@@ -15,7 +15,7 @@ struct room {
     uint8_t wanted[ROOM_MOST]; /* the same bytes as they must be */
 };
 
-/* The fence that the bytes touch; at their other side stand guard bytes. NEAR: no fence, but each run right behind the one that was
+/* The fence that the bytes touch; at their other side stand guard bytes. NEAR: no fence, but each run right after the one that was
    laid before it, since compiled code may go another way where what it reads is less than 32 bytes before what it writes. */
 enum side { AT_END, AT_START, NEAR };
 

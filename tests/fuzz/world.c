@@ -33,7 +33,7 @@ static void expect_scheduler(struct world *d, uint32_t own, int restarts)
     expect_room(&d->s, "the scheduler");
 }
 
-/* What is made of any bytes; those behind the last field stay. */
+/* What is made of any bytes; those after the last field stay. */
 static fbk_scheduler made(const struct gate *g, fbk_scheduler s)
 {
     memset(&s, 0, offsetof(fbk_scheduler, nas_ip));

@@ -2,7 +2,7 @@
 # The gate, `make test`. Its last line is 'N passed, 0 failed', or 'failed: ' and what failed.
 set -u
 cd "$(dirname "$0")/../.." || exit 1
-exec 2>&1 # one stream, so that nothing comes behind the last line
+exec 2>&1 # one stream, so that nothing comes after the last line
 
 fail() {
     echo "failed: $*"

@@ -87,7 +87,7 @@ for gone in Need-loop-holds InvT-loop MeasureT-loop; do
     says="\`tie.$gone\`: module \`made.Tie\` has no \`$gone\` that can be named from here"
     try "an edit that takes $gone away" $bad 'failed: must-fail logs (exit 1, 0 passed, 1 failed)' FIRST="$says"
     same 'that edit is named' "$(grep -c '^must-fail made/loop: shows nothing' "$room/output")" 1
-    try "an edit where $gone is gone, behind a better error" 0 '15 passed, 0 failed' SECOND="$says"
+    try "an edit where $gone is gone, after a better error" 0 '15 passed, 0 failed' SECOND="$says"
 done
 try 'an edit that puts another call in its place' $bad 'failed: must-fail logs (exit 1, 0 passed, 1 failed)' FIRST='record `made.After-g` has no field `f`'
 broke="give the call less to do
@@ -95,7 +95,7 @@ broke="give the call less to do
 try 'an edit at which the prover only broke off' $bad 'failed: must-fail logs (exit 1, 0 passed, 1 failed)' FIRST="$broke" SECOND='`f` was not admitted (it was rejected)'
 try 'an edit at which the prover broke off twice' $bad 'failed: must-fail logs (exit 1, 0 passed, 1 failed)' FIRST="$broke" SECOND="$broke"
 try 'an edit at which the prover broke off, before a better error' 0 '15 passed, 0 failed' FIRST="$broke"
-try 'an edit at which the prover broke off, behind a better error' 0 '15 passed, 0 failed' SECOND="$broke"
+try 'an edit at which the prover broke off, after a better error' 0 '15 passed, 0 failed' SECOND="$broke"
 try 'a wrong citation' $bad 'failed: citations of the guides (exit 0, 4 passed, 1 failed)' CITED_LAST='4 passed, 1 failed'
 try 'no library' $bad 'failed: tests outside the prover (exit 1, with no count)' LIB_STATUS=1
 try 'a test fails' $bad 'failed: tests outside the prover (exit 1, 3 passed, 1 failed)' RUN_STATUS=1 RUN_LAST='3 passed, 1 failed'

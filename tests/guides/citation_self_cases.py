@@ -2,10 +2,10 @@
 import tempfile
 from pathlib import Path
 
-from tests.guides.citations import Repository, citations, crates_listed, paragraphs, plain, quotations, row_fault, rows
+from tests.guides.citations import Repository, citations, indexed, paragraphs, plain, quotations, row_fault, rows
 
 FILES = {
-    "crates.txt": "# a floor\nmade:\nother: made\n",
+    "crates.txt": "# level 0\nmade:\nother: made\n",
     "Makefile": "demo:\n\ttrue\n",
     "docs/DECISIONS.md": "1. **One.** As 7. **no entry**\n2. **Two.**\n",
     "crates/made/specs/Facts.antt": "-- spoken : of\nunfoldable pub fact : ℕ\nfact = said\n\npub record Rec (a : ℕ) : Type 0 where\n  pub field : a ≡ 0\n",
@@ -66,9 +66,11 @@ def quotes(probe, tally):
     tally.same(plain("All *house*  rules"), "All house rules", "plain words")
 
 
-def readme(probe, tally):
-    text = "| `crates/made` | x |\n| `crates/other`, `made`, `include/` | y |\n| `tests/` | z |\n"
-    tally.same(crates_listed(text), ["made", "other", "made"], "a crate listed twice")
+def index(probe, tally):
+    text = "| subject | entries |\n|---|---|\n| one and 4 | 1, 3 |\n| two | 2 |\n\n5. **Five.**\n"
+    tally.same(indexed(text), {1, 2, 3}, "an index")
+    with tempfile.TemporaryDirectory() as folder:
+        tally.same(made(folder).decisions(), [1, 2], "the decisions, in the order of the file")
 
 
 GROUPS = [
@@ -76,5 +78,5 @@ GROUPS = [
     ("the citations: rows that show nothing", table_rows),
     ("the citations: paragraphs", lines),
     ("the citations: quotations", quotes),
-    ("the citations: README's table", readme),
+    ("the citations: the index of the decisions", index),
 ]

@@ -37,8 +37,8 @@ class Repository:
         return bool(pattern) and bool(re.search(pattern.format(re.escape(name)), place.read_text(), re.M))
 
     def decisions(self):
-        text = (self.root / "docs/DECISIONS.md").read_text()
-        return {int(number) for number in re.findall(r"^(\d+)\. \*\*", text, re.M)}
+        """The numbers of the decisions, in the order of the file."""
+        return [int(number) for number in re.findall(r"^(\d+)\. \*\*", (self.root / "docs/DECISIONS.md").read_text(), re.M)]
 
     def makes(self, target):
         return bool(re.search(rf"^{re.escape(target)}:", (self.root / "Makefile").read_text(), re.M))
@@ -139,6 +139,11 @@ def row_fault(repository, words, where):
     return None if citations(repository, where) else "nothing is cited"
 
 
+def indexed(text):
+    """The numbers that the index at the top of a file names: the last cells of its tables."""
+    return {int(number) for _, _, where in rows(text) for number in re.findall(r"\d+", where)}
+
+
 def plain(text):
     return " ".join(text.replace("*", "").split())
 
@@ -149,10 +154,3 @@ def quotations(text):
         for quoted in re.findall(r'"([^"]+)"', SPAN.sub("", words)):
             if len(quoted.split()) >= 3:
                 yield number, quoted
-
-
-def crates_listed(readme):
-    """The crates of README's table, in its order."""
-    cells = re.findall(r"^\| (`crates/[^|]*)\|", readme, re.M)
-    names = [span.removeprefix("crates/") for cell in cells for span in SPAN.findall(cell)]
-    return [name for name in names if not name.endswith("/")]

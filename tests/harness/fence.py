@@ -8,7 +8,7 @@ GUARD = b"\xa5" * 16  # stands right before the bytes, where a second fence cann
 
 
 class Room:
-    """Some pages and behind them one that nothing may touch. Bytes are laid so that they end at the fence."""
+    """Some pages and after them one that nothing may touch. Bytes are laid so that they end at the fence."""
 
     def __init__(self):
         self.pages = mmap.mmap(-1, (PAGES + 1) * PAGE)

@@ -85,9 +85,9 @@ def half_hashed():
     place = p.index(b"state")
     changed, shorter = p[:place] + b"X" + p[place + 1:], p[:2] + b"\0\x14" + p[4:]
     for name, written, answer in [  # what is written before each block, and before the Check
-        ("before its block", [changed, None, None, None], 104), ("behind its block", [None, changed, None, None], 600),
-        ("before the Check", [None, None, None, changed], 600), ("before its block, and put back behind it", [changed, p, None, None], 104),
-        ("behind its block, and put back", [None, changed, p, None], 600), ("of Length, and put back", [shorter, None, None, p], 104),
+        ("before its block", [changed, None, None, None], 104), ("after its block", [None, changed, None, None], 600),
+        ("before the Check", [None, None, None, changed], 600), ("before its block, and put back after it", [changed, p, None, None], 104),
+        ("after its block, and put back", [None, changed, p, None], 600), ("of Length, and put back", [shorter, None, None, p], 104),
     ]:
         world = World(TABLE)
         world.open(p, CLOCK)
@@ -110,7 +110,7 @@ def other_tables():
         ("cut before Commit", 5, lambda t: t[:4 * 192], (1, 0, 1)),
         ("grown before Commit", 5, lambda t: t + people("ba"), (3, 0, 3)), ("grown to 64", 5, lambda t: t + people("b" * 59), (60, 0, 2)),
         ("a marked slot free", 5, put(1, none), (1, 0, 1)), ("all marked slots free", 5, lambda t: put(1, none)(put(4, none)(t)), (1, 503, 0)),
-        ("another in a marked slot", 5, put(1, ben), (1, 0, 2)), ("one more, behind the place", 5, put(0, ann), (1, 0, 2)),
+        ("another in a marked slot", 5, put(1, ben), (1, 0, 2)), ("one more, after the place", 5, put(0, ann), (1, 0, 2)),
         ("one more, before the place", 3, put(3, ann), (3, 0, 3)), ("one less, before the place", 3, put(4, ben), (3, 0, 1)),
     ]:
         world = at_slot(COA, place)

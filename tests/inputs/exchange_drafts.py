@@ -85,7 +85,7 @@ def r2(e):
 
 
 def too_short(rng):
-    """D1's rule broken, whatever stands behind the packet."""
+    """D1's rule broken, whatever stands after the packet."""
     below, above = rng.randrange(20), rng.randint(4097, 6000)
     return rng.choice([
         lambda p: p[:2] + below.to_bytes(2, "big") + p[4:],

@@ -29,7 +29,7 @@ def unsigned(code, parts, length=None, identifier=7):
 
 
 def sign(p, secret=GATE.secret, auth=bytes(16)):
-    """The packet up to its Length with the right authenticator; what is behind Length stays."""
+    """The packet up to its Length with the right authenticator; what is after Length stays."""
     return p[:4] + packet_model.authenticator(p, packet_model.length_of(p), auth, secret) + p[20:]
 
 

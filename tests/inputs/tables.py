@@ -21,7 +21,7 @@ def session(rng, **given):
 
 
 def loose(rng, fields):
-    """The slot of a session with any bytes where nothing is read: behind the texts and at the end."""
+    """The slot of a session with any bytes where nothing is read: after the texts and at the end."""
     content = bytearray(model.record(fields))
     for place, _, high in model.TEXTS.values():
         start = place + 1 + content[place]

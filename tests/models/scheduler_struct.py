@@ -39,7 +39,7 @@ def put(struct, k, job):
 
 
 def written(scheduler, held):
-    """A scheduler of the model: zeros behind the secret and the name, and behind the last field what was there."""
+    """A scheduler of the model: zeros after the secret and the name, and after the last field what was there."""
     struct, (secret, address, name) = Struct.from_buffer_copy(held), scheduler.gate
     struct.secret[:], struct.nas_id[:] = secret.ljust(64, b"\0"), name.ljust(32, b"\0")
     struct.secret_len, struct.nas_id_len, struct.nas_ip = len(secret), len(name), address

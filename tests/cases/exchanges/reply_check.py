@@ -146,7 +146,7 @@ def v6(probe, tally):
 
 
 def each_byte(probe, tally):
-    """A reply altered in one byte is never right, whatever the byte becomes; but behind Length any byte may stand."""
+    """A reply altered in one byte is never right, whatever the byte becomes; but after Length any byte may stand."""
     for code, more, parts in [(DISCONNECT, 1, []), (COA, 2, [STATE, CAUSE, MAC]), (DISCONNECT, 2, [CAUSE, PROXY]), (COA, 1, [MAC, STAMP])]:
         asked, padding = ASKED[code], sample(code, 6)
         answer = reply(asked, parts, more)

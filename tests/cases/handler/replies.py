@@ -94,7 +94,7 @@ def marked(probe, tally):
 
 
 def around(probe, tally):
-    """Every identifier; any bytes behind the request and in the buffer; buffers that are longer."""
+    """Every identifier; any bytes after the request and in the buffer; buffers that are longer."""
     for code, identifier in itertools.product(CODES, range(256)):
         handled(probe, tally, Call(TABLE, request(code, good(code), identifier=identifier)), "identifier", identifier, answer=0)
     for code, size in itertools.product(CODES, [1, 2, 18, 64, 4000, 4096, 10000]):

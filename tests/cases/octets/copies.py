@@ -3,7 +3,7 @@ from tests.inputs.byte_runs import FAR, sample
 
 COUNTS = range(41)
 PLACES = [0, 1, 2, 3, 7, 8, 9, 15, 16, 17, 31]
-REST = [-3, -1, 0, 1, 7, 8, 20]  # bytes behind the last that is written; below 0: so many are missing
+REST = [-3, -1, 0, 1, 7, 8, 20]  # bytes after the last that is written; below 0: so many are missing
 
 
 def spots(count):

@@ -9,7 +9,7 @@ EXAMPLE = b"\x00\x01\x00\xd4"  # 65,748
 
 
 def places(length):
-    """Every place in a run, and some behind it."""
+    """Every place in a run, and some after it."""
     return [*range(length + 6), *FAR]
 
 

@@ -111,7 +111,7 @@ def d5(probe, tally):
                 judged(probe, tally, wrong, "length", size + 2, "at", at, number=105)
         for where in range(len(others) + 1):
             both = [MAC] + others[:where] + [MAC] + others[where:]
-            judged(probe, tally, request(code, both), "twice, the second right, behind", where, number=105)
+            judged(probe, tally, request(code, both), "twice, the second right, after", where, number=105)
             judged(probe, tally, request(code, both + [MAC]), "three times", number=105)
         judged(probe, tally, request(code, [MAC]), "alone", number=106)
         judged(probe, tally, request(code, [MAC, attribute(26, b"")]), "right, an unsupported type", number=106)
@@ -119,7 +119,7 @@ def d5(probe, tally):
 
 GROUPS = [
     ("D1: bytes given and Length", d1),
-    ("padding behind Length is ignored", padding),
+    ("padding after Length is ignored", padding),
     ("D2: every code", d2),
     ("D3: attributes that do not fill Length", d3),
     ("D4: every bit of a signed packet", d4),

@@ -10,7 +10,7 @@ ZEROS = bytes(16)
 
 
 def packets(lengths):
-    """Any bytes of each length, with none, one or more behind them as padding."""
+    """Any bytes of each length, with none, one or more after them as padding."""
     for n in lengths:
         for padding in [0, 1, 70]:
             yield n, sample(n, n + padding)

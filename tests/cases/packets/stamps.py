@@ -48,12 +48,12 @@ def unusable(probe, tally):
 
 
 def placed(probe, tally):
-    """The stamp is read wherever it stands, behind values that look like one."""
+    """The stamp is read wherever it stands, after values that look like one."""
     for code in CODES:
         for before in [[], [USER], [attribute(33, STAMP)], [attribute(33, stamp(0)), USER, MAC], [attribute(1, STAMP)]]:
             for behind in [[], [attribute(33, STAMP)], [attribute(44, stamp(LAST))]]:
                 parts = before + [STAMP] + behind + [attribute(5, bytes(4))] + ([] if code == 40 else [TIMEOUT])
-                judged(probe, tally, request(code, parts), "stamp behind", len(before), number=0)
+                judged(probe, tally, request(code, parts), "stamp after", len(before), number=0)
 
 
 def before_causes(probe, tally):

@@ -53,7 +53,7 @@ def values(probe, tally):
 
 
 def hashing(probe, tally):
-    """A byte that is altered before its block is hashed is found by D4, one behind is not; D4 goes by the words as held."""
+    """A byte that is altered before its block is hashed is found by D4, one that is altered after is not; D4 goes by the words as held."""
     for name, world, answer in half_hashed():
         tally.same((world.jobs[0].kind, world.step(0).answer), (CHECK, answer), "a byte altered", name)
 
@@ -65,7 +65,7 @@ def tables(probe, tally):
 
 
 def other_parts(probe, tally):
-    """What is written to another part of the store, or behind Length, is nothing to a job."""
+    """What is written to another part of the store, or after Length, is nothing to a job."""
     for stage, made in stages(COA, True):
         world = made.copy()
         world.write(0, RNG.randbytes(4096))

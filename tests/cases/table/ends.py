@@ -65,7 +65,7 @@ def histories(probe, tally):
 
 GROUPS = [
     ("end: each slot of tables of 1 to 64 slots", each),
-    ("end: slots behind the table", beyond),
+    ("end: slots after the table", beyond),
     ("end: free slots", free_slots),
     ("end: tables of a wrong length", wrong_tables),
     ("histories of starts, ends, matches and changes", histories),

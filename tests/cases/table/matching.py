@@ -50,7 +50,7 @@ def orders(probe, tally):
 
 
 def text_lengths(probe, tally):
-    """Texts that are prefixes of each other; behind the text in the slot stands how it would go on."""
+    """Texts that are prefixes of each other; after the text in the slot stands how it would go on."""
     whole = seeded("text").randbytes(70)
     for name in TEXTS:
         place, low, high = model.TEXTS[name]

@@ -10,7 +10,7 @@ AROUND = [0, 1, 31, 32, 33, 62, 63, 64, 255]  # lengths at and around the limits
 
 
 def lives(probe, tally, run, *case):
-    """Each slot of a table, and none behind it."""
+    """Each slot of a table, and none after it."""
     count = model.slot_count(run)
     for k in range(count):
         tally.same(probe("table_live", run, k), (int(model.live(model.slot(run, k))), run), *case, "slot", k)
@@ -69,7 +69,7 @@ def beyond(probe, tally):
 
 
 def cut_short(probe, tally):
-    """A table with part of a slot is refused elsewhere (R1). Here it reads as if zeros followed, and nothing behind it is read."""
+    """A table with part of a slot is refused elsewhere (R1). Here it reads as if zeros followed, and nothing after it is read."""
     content = loose(seeded("cut"), session(seeded("cut")))
     for length in range(2 * 192):
         run = (content + content)[:length]
@@ -85,6 +85,6 @@ GROUPS = [
     ("live: lengths around their limits, all four at once", length_pairs),
     ("live: all values and bits of the mark", mark_bytes),
     ("live: tables of 1 to 64 slots with free ones among them", anywhere),
-    ("live: slots behind the table", beyond),
+    ("live: slots after the table", beyond),
     ("live: slots cut short", cut_short),
 ]

@@ -73,7 +73,7 @@ def ids(probe, tally):
     place, _, high = model.TEXTS["id"]
     for have in range(1, 33):
         held = bytearray(model.record(session(rng, id=whole[:have])))
-        held[place + 1:place + 1 + high] = whole[:high]  # behind the text stands how it would go on
+        held[place + 1:place + 1 + high] = whole[:high]  # after the text stands how it would go on
         for want in range(1, 33):
             start(probe, tally, bytes(held) + free(rng), session(rng, id=whole[:want]), "id of", have, "new", want)
         for byte in range(have):
