@@ -24,7 +24,7 @@ pub fn has(count: &[u8; 256], kind: u8) -> bool
 
 // Where the first of this type ends.
 pub fn end_of(ends: &[u16; 256], kind: u8) -> usize
-    ensures { λ r. ⌜ r ≡ getD (now (ends .entry)) kind 0 ⌝ }
+    ensures { λ r. ⌜ (r ≡ getD (now (ends .entry)) kind 0) × (r ≤ 65535) ⌝ }
 {
     octet_numbers::wide16(ends[kind as usize])
 }

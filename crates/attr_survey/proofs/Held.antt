@@ -1,5 +1,5 @@
 -- What a pass holds between two attributes: w are all attributes, l those that are left. The answers on w are what is held, completed by the answers on l.
--- Before the first attribute nothing is held; behind the last what is held is the answer.
+-- Before the first attribute nothing is held; after the last what is held is the answer.
 -- Assumes nothing.
 use mathlib.Core.Path.{_≡_, refl, sym, ap}
 use mathlib.Core.Bool.{Bool, true, _||_}
@@ -11,7 +11,7 @@ use Rattle.attr_walk.specs.Attributes.{any, found, kindIs}
 use Rattle.attr_survey.specs.declared.Flags.{Flags}
 use Rattle.attr_types.specs.Types.{unsupportedIn, misfitting, among, criteria, changes, firstRepeated, none}
 use Rattle.attr_survey.specs.Survey.{zeros, seenAt, endOf, sizeOf, Counted}
-use Rattle.attr_survey.specs.Turns.{unmarked}
+use Rattle.attr_survey.specs.Turns.{noFlags}
 use Rattle.attr_types.proofs.Repeats.{same-seen}
 use Rattle.attr_survey.proofs.Types.{Number, First, zero-at, number-start, first-start, number-end, first-end}
 
@@ -34,9 +34,9 @@ pub record Held (code : ℕ) (w l : List Attribute) (count ends sizes : List ℕ
   pub end : (k : ℕ) → (k ≡ 33 → ⊥) → First endOf w l k count ends
   pub size : (k : ℕ) → (k ≡ 33 → ⊥) → First sizeOf w l k count sizes
 
--- ---- before the first attribute, and behind the last
+-- ---- before the first attribute, and after the last
 
-pub starts : (code : ℕ) (w : List Attribute) (count ends sizes : List ℕ) (f : Flags) → count ≡ zeros → ends ≡ zeros → sizes ≡ zeros → f ≡ unmarked → Held code w w count ends sizes f
+pub starts : (code : ℕ) (w : List Attribute) (count ends sizes : List ℕ) (f : Flags) → count ≡ zeros → ends ≡ zeros → sizes ≡ zeros → f ≡ noFlags → Held code w w count ends sizes f
 unfolding zeros
 starts code w count ends sizes f p q r t =
     rw (p, q, r, t)

@@ -1,8 +1,9 @@
 pub mod Notes
-pub mod Marking
+pub mod FlagTurns
 pub mod Seen
 pub mod Types
 pub mod Held
 pub mod Turning
 pub mod Passes
 pub mod Areas
+pub mod UpToTwo

@@ -17,7 +17,7 @@ use Rattle.attr_walk.proofs.Walks.{walk-end, walk-bad, walk-found, tiles-end, t
 use Rattle.attr_survey.specs.declared.Flags.{Flags}
 use Rattle.attr_types.specs.Classes.{classOf, says}
 use Rattle.attr_survey.specs.Survey.{Kept, Flagged, seenAt}
-use Rattle.attr_survey.specs.Turns.{marked, cut, countedAt, keptAt}
+use Rattle.attr_survey.specs.Turns.{joinedBy, untiled, countedAt, keptAt}
 use Rattle.attr_types.proofs.Rules.{repeats-33, repeats-not}
 use Rattle.attr_survey.proofs.Held.{Held, ends-types}
 use Rattle.attr_survey.proofs.Turning.{turn-33, turn-empty, turn-other}
@@ -34,13 +34,13 @@ module _ (code : ℕ) (s : List ℕ) (w : List Attribute) (at : ℕ) (count ends
       pub held-33 : b ≡ true → (a .size ≡ 2 → ⊥) → Held code w (attributesFrom s next) count ends sizes f
       held-33 y n = turn-33 code w (attributesFrom s next) a count ends sizes f here (repeats-33 (a .kind) b (t ∙ ap (says 64) e) y) n
 
-      pub held-empty : b ≡ true → (g : Flags) → g ≡ marked code class (a .size) false f → Held code w (attributesFrom s next) count ends sizes g
+      pub held-empty : b ≡ true → (g : Flags) → g ≡ joinedBy code class (a .size) false f → Held code w (attributesFrom s next) count ends sizes g
       held-empty y g d =
           rw (d, e) (turn-empty code w (attributesFrom s next) a count ends sizes f here (repeats-33 (a .kind) b (t ∙ ap (says 64) e) y))
 
       pub held-other : b ≡ false → a .kind < 256 → (again : Bool) → again ≡ seenAt count (a .kind)
           → (count′ ends′ sizes′ : List ℕ) → count′ ≡ countedAt count (a .kind) → ends′ ≡ keptAt count ends (a .kind) next → sizes′ ≡ keptAt count sizes (a .kind) (a .size)
-          → (g : Flags) → g ≡ marked code class (a .size) again f → Held code w (attributesFrom s next) count′ ends′ sizes′ g
+          → (g : Flags) → g ≡ joinedBy code class (a .size) again f → Held code w (attributesFrom s next) count′ ends′ sizes′ g
       held-other y small again o count′ ends′ sizes′ e1 e2 e3 g m =
           rw (m, o, e, e1, e2 ∙ ap (keptAt count ends (a .kind)) (sym (step-inv s at a next (sym q ∙ r) .ends)), e3)
           (turn-other code w (attributesFrom s next) a count ends sizes f here (repeats-not (a .kind) b (t ∙ ap (says 64) e) y) small)
@@ -76,5 +76,5 @@ module _ (code : ℕ) (s : List ℕ) (at : ℕ) (count ends sizes : List ℕ) (f
   pub flags-end : tiledFrom s 0 ≡ tiledFrom s at → x ≡ End → Flagged s code f
   flags-end t r = flagged (walk-end _ _ _ s at (sym q ∙ r)) (f .tiled) (i .tiled ∙ tiles-end s (tiledFrom s 0) at x t q r)
 
-  pub flags-bad : tiledFrom s 0 ≡ tiledFrom s at → x ≡ Bad → (g : Flags) → g ≡ cut f → Flagged s code g
+  pub flags-bad : tiledFrom s 0 ≡ tiledFrom s at → x ≡ Bad → (g : Flags) → g ≡ untiled f → Flagged s code g
   flags-bad t r g e = rw e (flagged (walk-bad _ _ _ s at (sym q ∙ r)) false (tiles-bad s (tiledFrom s 0) at x t q r))

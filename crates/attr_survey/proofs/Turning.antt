@@ -15,7 +15,7 @@ use Rattle.attr_survey.specs.declared.Flags.{Flags}
 use Rattle.attr_types.specs.Types.{unsupportedIn, misfitting, among, criteria, changes, firstRepeated, also, none}
 use Rattle.attr_types.specs.Classes.{classOf}
 use Rattle.attr_survey.specs.Survey.{seenAt, endOf, sizeOf}
-use Rattle.attr_survey.specs.Turns.{marked, countedAt, keptAt}
+use Rattle.attr_survey.specs.Turns.{joinedBy, countedAt, keptAt}
 use Rattle.attr_types.proofs.Entries.{says-criterion, says-change, says-service}
 use Rattle.attr_types.proofs.Rules.{lacks-class, misfit-class, supported-33, fits-33}
 use Rattle.attr_survey.proofs.Notes.{counted-long, kept-long}
@@ -83,9 +83,9 @@ module _ (code : ℕ) (w l : List Attribute) (a : Attribute) (count ends sizes :
         (flag-stays (among criteria) w l a (f .criterion) (i .criterion) (rw e))
         (flag-stays (among changes) w l a (f .change) (i .change) (rw e))
 
-    pub turn-empty : Held code w l count ends sizes (marked code (classOf (a .kind)) (a .size) false f)
+    pub turn-empty : Held code w l count ends sizes (joinedBy code (classOf (a .kind)) (a .size) false f)
     turn-empty =
-        uncounted (marked code (classOf (a .kind)) (a .size) false f) (i .tiled) (or-false (f .repeated))
+        uncounted (joinedBy code (classOf (a .kind)) (a .size) false f) (i .tiled) (or-false (f .repeated))
         (flag-joins (unsupportedIn code) w l a (f .unsupported) (i .unsupported) _ (lacks-class code (a .kind)))
         (flag-joins (kindIs 6) w l a (f .service) (i .service) _ (says-service (a .kind)))
         (flag-joins misfitting w l a (f .misfit) (i .misfit) _ (misfit-class (a .kind) (a .size)))
@@ -94,7 +94,7 @@ module _ (code : ℕ) (w l : List Attribute) (a : Attribute) (count ends sizes :
 
   pub turn-other : eqb (a .kind) 33 ≡ false → a .kind < 256
       → Held code w l (countedAt count (a .kind)) (keptAt count ends (a .kind) (a .at + a .size)) (keptAt count sizes (a .kind) (a .size))
-      (marked code (classOf (a .kind)) (a .size) (seenAt count (a .kind)) f)
+      (joinedBy code (classOf (a .kind)) (a .size) (seenAt count (a .kind)) f)
   turn-other ne h =
       let hc : a .kind < length count = rw (i .counts) h in
       let he : a .kind < length ends = rw (i .places) h in

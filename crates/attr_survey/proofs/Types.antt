@@ -93,7 +93,7 @@ module _ (f : Search → ℕ) (w l : List Attribute) (a : Attribute) (v : ℕ) (
   pub first-turn : (k : ℕ) → First f w (a ∷ l) k count kept → First f w l k (countedAt count (a .kind)) (keptAt count kept (a .kind) v)
   first-turn k x = first-case k x _ refl
 
--- ---- before the first attribute, and behind the last
+-- ---- before the first attribute, and after the last
 
 pub zero-at : (k n : ℕ) → getD (replicate {A = ℕ} n 0) k 0 ≡ 0
 zero-at k zero = refl

@@ -10,12 +10,12 @@ use Rattle.attr_survey.specs.declared.Flags as D
 use Rattle.attr_types.specs.Classes.{says, lacking, misfitBy}
 
 -- the flags before the first attribute
-abbrev pub unmarked : D.Flags
-unmarked = record { tiled = true; unsupported = false; service = false; repeated = false; misfit = false; criterion = false; change = false }
+abbrev pub noFlags : D.Flags
+noFlags = record { tiled = true; unsupported = false; service = false; repeated = false; misfit = false; criterion = false; change = false }
 
 -- after one more attribute: its class and length answer the rules, `again` says that its type was there before
-abbrev pub marked : ℕ → ℕ → ℕ → Bool → D.Flags → D.Flags
-marked code class size again f =
+abbrev pub joinedBy : ℕ → ℕ → ℕ → Bool → D.Flags → D.Flags
+joinedBy code class size again f =
     record {
       tiled = f .tiled;
       unsupported = f .unsupported || lacking code class;
@@ -27,8 +27,8 @@ marked code class size again f =
     }
 
 -- where no attribute stands before the area's end: the attributes do not fill it
-abbrev pub cut : D.Flags → D.Flags
-cut f = record { tiled = false; unsupported = f .unsupported; service = f .service; repeated = f .repeated; misfit = f .misfit; criterion = f .criterion; change = f .change }
+abbrev pub untiled : D.Flags → D.Flags
+untiled f = record { tiled = false; unsupported = f .unsupported; service = f .service; repeated = f .repeated; misfit = f .misfit; criterion = f .criterion; change = f .change }
 
 -- one more of type k: 1, then 2 for any more
 unfoldable pub countedAt : List ℕ → ℕ → List ℕ

@@ -4,12 +4,12 @@ ghost use Prim.Native.Nat.{_≤_};
 ghost use lib.ListN.{length};
 ghost use Rattle.attr_survey.specs.Survey.{zeros, Flagged, Kept};
 use counts::note;
-use marks::cut;
-use marks::marked;
-use marks::unmarked;
+use turns::joined;
+use turns::no_flags;
+use turns::untiled;
 
-mod counts;
-mod marks;
+mod counts; // counts.rt: what is kept of each type
+mod turns; // turns.rt: the flags, attribute by attribute
 
 // The flags of a pass.
 pub struct Flags {
@@ -43,7 +43,7 @@ pub fn survey(
     ensures { λ r. ⌜ Kept (now (s .entry)) (now (count .exit)) (now (ends .exit)) (now (sizes .exit)) ⌝ }
 {
     let table = attr_types::table();
-    let mut f = unmarked();
+    let mut f = no_flags();
     let mut at: usize = 0;
     loop {
         match attr_walk::step_at(s, at) {
@@ -56,16 +56,16 @@ pub fn survey(
                 // What may repeat is not counted, and breaks no rule but that on length 2.
                 if attr_types::says(64, class) {
                     if size == 2 {
-                        f = marked(f, code, class, size, false);
+                        f = joined(f, code, class, size, false);
                         continue;
                     }
                     continue;
                 }
                 let again = note(count, ends, sizes, kind, end, size);
-                f = marked(f, code, class, size, again);
+                f = joined(f, code, class, size, again);
             }
             attr_walk::Step::End => return f,
-            attr_walk::Step::Bad => return cut(f),
+            attr_walk::Step::Bad => return untiled(f),
         }
     }
 }

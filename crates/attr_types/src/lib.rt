@@ -3,6 +3,37 @@ ghost use mathlib.Core.Path.{_≡_};
 ghost use Prim.Native.Nat.{_<_};
 ghost use Rattle.attr_types.specs.Classes.{classOf, classes, says, lacking, misfitBy};
 
+// The types that a rule, a criterion or a field of the record is about (RFC 2865, RFC 2866, RFC 2869).
+pub const USER_NAME: u8 = 1;
+
+pub const NAS_IP_ADDRESS: u8 = 4;
+
+pub const NAS_PORT: u8 = 5;
+
+pub const FRAMED_IP_ADDRESS: u8 = 8;
+
+pub const FILTER_ID: u8 = 11;
+
+pub const STATE: u8 = 24;
+
+pub const SESSION_TIMEOUT: u8 = 27;
+
+pub const IDLE_TIMEOUT: u8 = 28;
+
+pub const CALLING_STATION_ID: u8 = 31;
+
+pub const NAS_IDENTIFIER: u8 = 32;
+
+pub const PROXY_STATE: u8 = 33;
+
+pub const ACCT_SESSION_ID: u8 = 44;
+
+pub const EVENT_TIMESTAMP: u8 = 55;
+
+pub const MESSAGE_AUTHENTICATOR: u8 = 80;
+
+pub const ERROR_CAUSE: u8 = 101;
+
 // A byte for each type from 0 to 255, 16 to a row. Its answers, from the lowest bit: supported in a CoA-Request, in a
 // Disconnect-Request, of length 6, not of length 2, names a session, changes one, may repeat, is Service-Type.
 const CLASSES: [u8; 256] = *b"\

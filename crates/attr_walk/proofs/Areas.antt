@@ -1,4 +1,4 @@
--- Areas made of parts: what one area behind another holds, and the area of one attribute. A walk over both is the one over the second at the end of the first.
+-- Areas made of parts: what one area after another holds, and the area of one attribute. A walk over both is the one over the second at the end of the first.
 -- Assumes nothing.
 use mathlib.Core.Path.{_≡_, refl, sym, ap, _∙_}
 use mathlib.Core.Bool.{Bool, true, false}
@@ -12,12 +12,12 @@ use Rattle.octet_numbers.specs.Runs.{part}
 use Rattle.attr_walk.specs.declared.Attribute.{Attribute}
 use Rattle.attr_walk.specs.declared.Step.{Step}
 use Rattle.attr_walk.specs.declared.Step.the-variants.{Found, End, Bad}
-use Rattle.attr_walk.specs.Attributes.{stepAt, onStep, valueOf, walk, walkFrom, attributes, tiled, behind, bytesOf}
+use Rattle.attr_walk.specs.Attributes.{stepAt, onStep, valueOf, walk, walkFrom, attributes, tiled, shifted, bytesOf}
 use Rattle.attr_walk.proofs.Steps.{Placed, step-end, step-found}
 use Rattle.attr_walk.proofs.Walks.{walk-end, walk-found}
 use Rattle.attr_walk.proofs.Joins.{walk-both}
 
--- ---- one area behind another
+-- ---- one area after another
 
 fold-last : (z : Bool) (l : List Attribute) → foldr (λ a rest. rest) z l ≡ z
 fold-last z [] = refl
@@ -46,11 +46,11 @@ module _ (xs ys : List ℕ) (t : tiled xs ≡ true) where
   pub tiled-append : tiled (xs ++ ys) ≡ tiled ys
   tiled-append = walk-both true false (λ a rest. rest) xs ys t ∙ fold-last (tiled ys) (attributes xs)
 
-  pub attributes-append : attributes (xs ++ ys) ≡ attributes xs ++ map (behind (length xs)) (attributes ys)
+  pub attributes-append : attributes (xs ++ ys) ≡ attributes xs ++ map (shifted (length xs)) (attributes ys)
   attributes-append =
       walk-both [] [] (λ a rest. a ∷ rest) xs ys t
-      ∙ fold-append (walkFrom [] [] (λ a rest. behind (length xs) a ∷ rest) ys 0) (attributes xs)
-      ∙ ap (λ (l : List Attribute). attributes xs ++ l) (map-attributes (behind (length xs)) ys)
+      ∙ fold-append (walkFrom [] [] (λ a rest. shifted (length xs) a ∷ rest) ys 0) (attributes xs)
+      ∙ ap (λ (l : List Attribute). attributes xs ++ l) (map-attributes (shifted (length xs)) ys)
 
   -- each fills its own, so both fill all
   pub tiled-both : tiled ys ≡ true → tiled (xs ++ ys) ≡ true
@@ -66,9 +66,9 @@ nil-attributes = walk-end [] [] (λ a rest. a ∷ rest) [] 0 (step-end [] 0 (ome
 -- ---- values
 
 -- of an attribute in the second area
-pub value-behind : (xs ys : List ℕ) (a : Attribute) → valueOf (xs ++ ys) (behind (length xs) a) ≡ valueOf ys a
+pub value-after : (xs ys : List ℕ) (a : Attribute) → valueOf (xs ++ ys) (shifted (length xs) a) ≡ valueOf ys a
 unfolding valueOf part
-value-behind xs ys a = rw (add-assoc (length xs) (a .at) 2) (ap (take (a .size - 2)) (drop-append-add xs ys (a .at + 2)))
+value-after xs ys a = rw (add-assoc (length xs) (a .at) 2) (ap (take (a .size - 2)) (drop-append-add xs ys (a .at + 2)))
 
 -- ---- one attribute, type k and value v
 

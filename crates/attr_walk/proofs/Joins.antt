@@ -1,4 +1,4 @@
--- One area behind another: in the first nothing changes, and in the second all places move by the first's length, so a walk over both is the one over the second at the end of the first.
+-- One area after another: in the first nothing changes, and in the second all places move by the first's length, so a walk over both is the one over the second at the end of the first.
 -- Assumes nothing.
 use mathlib.Core.Path.{_≡_, refl, sym, ap, _∙_}
 use mathlib.Core.Bool.{Bool, true, false, cond, _&&_, false≢true}
@@ -13,7 +13,7 @@ use borrow.Author.Tests.{le-leb, lt-leb, leb-true, leb-false}
 use Rattle.attr_walk.specs.declared.Attribute.{Attribute}
 use Rattle.attr_walk.specs.declared.Step.{Step}
 use Rattle.attr_walk.specs.declared.Step.the-variants.{Found, End, Bad}
-use Rattle.attr_walk.specs.Attributes.{lengthAt, stepAt, onStep, walk, walkFrom, attributes, attributesFrom, tiled, tiledFrom, behind}
+use Rattle.attr_walk.specs.Attributes.{lengthAt, stepAt, onStep, walk, walkFrom, attributes, attributesFrom, tiled, tiledFrom, shifted}
 use Rattle.attr_walk.proofs.Steps.{step-inv, step-found, end-inv}
 use Rattle.attr_walk.proofs.Walks.{walk-end, walk-bad, walk-found}
 
@@ -37,7 +37,7 @@ step-before xs ys at a next q =
 
 -- the same step, n places further on
 abbrev onward : ℕ → Step → Step
-onward n x = onStep End Bad (λ a next. Found (behind n a) (n + next)) x
+onward n x = onStep End Bad (λ a next. Found (shifted n a) (n + next)) x
 
 onward-cond : (n at k z : ℕ) (t u : Bool) → onward n (cond t End (cond u (Found (record { kind = k; at = at; size = z }) (at + z)) Bad))
     ≡ cond t End (cond u (Found (record { kind = k; at = n + at; size = z }) (n + at + z)) Bad)
@@ -52,9 +52,9 @@ leb-add n a b = by-test (leb a b) refl
     by-test true e = le-leb (n + a) (n + b) (let h = leb-true a b e in omega arith)
     by-test false e = lt-leb (n + a) (n + b) (let h = leb-false a b e in omega arith)
 
-pub step-behind : (xs ys : List ℕ) (at : ℕ) → stepAt (xs ++ ys) (length xs + at) ≡ onward (length xs) (stepAt ys at)
+pub step-after : (xs ys : List ℕ) (at : ℕ) → stepAt (xs ++ ys) (length xs + at) ≡ onward (length xs) (stepAt ys at)
 unfolding stepAt
-step-behind xs ys at =
+step-after xs ys at =
     let l : lengthAt (xs ++ ys) (length xs + at) ≡ lengthAt ys at = ap (λ (i : ℕ). getD (xs ++ ys) i 0) (add-assoc (length xs) at 1) ∙ getD-append-add xs ys (at + 1) 0 in
     let d : length xs + length ys - (length xs + at) ≡ length ys - at = omega arith in
     rw (l, getD-append-add xs ys at 0, length-append xs ys, leb-add (length xs) (length ys) at, d)
@@ -63,22 +63,22 @@ step-behind xs ys at =
 -- ---- a walk
 
 module _ {ℓ} {A : Type ℓ} (e b : A) (f : Attribute → A → A) (xs ys : List ℕ) where
-  turn-behind : (n : ℕ) → ((next : ℕ) → walk e b f (xs ++ ys) n (length xs + next) ≡ walk e b (λ a. f (behind (length xs) a)) ys n next) → (x : Step)
-      → onStep e b (λ a next. f a (walk e b f (xs ++ ys) n next)) (onward (length xs) x) ≡ onStep e b (λ a next. f (behind (length xs) a) (walk e b (λ a. f (behind (length xs) a)) ys n next)) x
-  turn-behind n ih (Found a next) = ap (f (behind (length xs) a)) (ih next)
-  turn-behind n ih End = refl
-  turn-behind n ih Bad = refl
+  turn-after : (n : ℕ) → ((next : ℕ) → walk e b f (xs ++ ys) n (length xs + next) ≡ walk e b (λ a. f (shifted (length xs) a)) ys n next) → (x : Step)
+      → onStep e b (λ a next. f a (walk e b f (xs ++ ys) n next)) (onward (length xs) x) ≡ onStep e b (λ a next. f (shifted (length xs) a) (walk e b (λ a. f (shifted (length xs) a)) ys n next)) x
+  turn-after n ih (Found a next) = ap (f (shifted (length xs) a)) (ih next)
+  turn-after n ih End = refl
+  turn-after n ih Bad = refl
 
-  turns-behind : (n at : ℕ) → walk e b f (xs ++ ys) n (length xs + at) ≡ walk e b (λ a. f (behind (length xs) a)) ys n at
-  turns-behind zero at = refl
-  turns-behind (suc n) at = rw (step-behind xs ys at) (turn-behind n (turns-behind n) (stepAt ys at))
+  turns-after : (n at : ℕ) → walk e b f (xs ++ ys) n (length xs + at) ≡ walk e b (λ a. f (shifted (length xs) a)) ys n at
+  turns-after zero at = refl
+  turns-after (suc n) at = rw (step-after xs ys at) (turn-after n (turns-after n) (stepAt ys at))
 
   -- over the second area
-  pub walk-behind : (at : ℕ) → walkFrom e b f (xs ++ ys) (length xs + at) ≡ walkFrom e b (λ a. f (behind (length xs) a)) ys at
+  pub walk-after : (at : ℕ) → walkFrom e b f (xs ++ ys) (length xs + at) ≡ walkFrom e b (λ a. f (shifted (length xs) a)) ys at
   unfolding walkFrom
-  walk-behind at =
+  walk-after at =
       let d : length xs + length ys - (length xs + at) ≡ length ys - at = omega arith in
-      rw (length-append xs ys, d) (turns-behind (length ys - at) at)
+      rw (length-append xs ys, d) (turns-after (length ys - at) at)
 
   -- what a walk over both is, from a place of the first on
   abbrev Walks-on : ℕ → Type ℓ
@@ -101,7 +101,7 @@ module _ {ℓ} {A : Type ℓ} (e b : A) (f : Attribute → A → A) (xs ys : Lis
   turns-before (suc n) at g h t = turn-before at h t (stepAt xs at) refl (λ next l m u. turns-before n next (omega arith) m u)
 
   -- over both, where attributes fill the first
-  pub walk-both : tiled xs ≡ true → walkFrom e b f (xs ++ ys) 0 ≡ foldr f (walkFrom e b (λ a. f (behind (length xs) a)) ys 0) (attributes xs)
+  pub walk-both : tiled xs ≡ true → walkFrom e b f (xs ++ ys) 0 ≡ foldr f (walkFrom e b (λ a. f (shifted (length xs) a)) ys 0) (attributes xs)
   walk-both t =
-      let z : walkFrom e b f (xs ++ ys) (length xs) ≡ walkFrom e b (λ a. f (behind (length xs) a)) ys 0 = ap (walkFrom e b f (xs ++ ys)) (sym (add-zero (length xs))) ∙ walk-behind 0 in
+      let z : walkFrom e b f (xs ++ ys) (length xs) ≡ walkFrom e b (λ a. f (shifted (length xs) a)) ys 0 = ap (walkFrom e b f (xs ++ ys)) (sym (add-zero (length xs))) ∙ walk-after 0 in
       turns-before (length xs) 0 (omega arith) (omega arith) t ∙ ap (λ (w : A). foldr f w (attributes xs)) z

@@ -92,9 +92,9 @@ pub count-append : (p : Attribute → Bool) (l m : List Attribute) → countOf p
 count-append p [] m = sym (zero-add (countOf p m))
 count-append p (a ∷ l) m = count-case (p a) (countOf p (l ++ m)) (countOf p l) (countOf p m) (count-append p l m)
 
-pub first-behind : (p : Attribute → Bool) (l m : List Attribute) → any p l ≡ false → firstOf p (l ++ m) ≡ firstOf p m
-first-behind p [] m h = refl
-first-behind p (b ∷ l) m h = by-head (p b) (first-behind p l m) h
+pub first-after : (p : Attribute → Bool) (l m : List Attribute) → any p l ≡ false → firstOf p (l ++ m) ≡ firstOf p m
+first-after p [] m h = refl
+first-after p (b ∷ l) m h = by-head (p b) (first-after p l m) h
   where
     by-head : (t : Bool) → (any p l ≡ false → firstOf p (l ++ m) ≡ firstOf p m) → found (cond t (At b) (firstOf p l)) ≡ false → cond t (At b) (firstOf p (l ++ m)) ≡ firstOf p m
     by-head true ih h = absurd (false≢true (sym h))

@@ -13,7 +13,7 @@ use Rattle.attr_walk.specs.declared.Step.{Step}
 use Rattle.attr_walk.specs.declared.Step.the-variants.{Found, End, Bad}
 use Rattle.attr_walk.specs.Attributes.{stepAt, onStep, valueOf, valueAt, nothing, standing}
 
--- of the bytes w of the whole attribute, those behind type and length: an attribute has at most 255 bytes
+-- of the bytes w of the whole attribute, those after type and length: an attribute has at most 255 bytes
 pub value-of : (s w r : List ℕ) (a : Attribute) → w ≡ part (a .at) (a .size) s → r ≡ part 2 253 w → a .size < 256 → r ≡ valueOf s a
 unfolding part valueOf
 value-of s w r a e g h =

@@ -56,7 +56,7 @@ module _ {ℓ} {A : Type ℓ} (e b : A) (f : Attribute → A → A) (s : List �
 
 -- ---- a loop over `step_at`: x is the step that was returned, z the whole answer
 
--- less is left behind an attribute
+-- less is left after an attribute
 pub advance : (s : List ℕ) (at next : ℕ) (a : Attribute) (x : Step) → x ≡ stepAt s at → x ≡ Found a next → length s - next < length s - at
 advance s at next a x q r = let p = found-placed s at next a x q r in omega arith
 

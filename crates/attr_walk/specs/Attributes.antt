@@ -17,7 +17,7 @@ use Rattle.attr_walk.specs.declared.Step.the-variants.{Found, End, Bad}
 abbrev pub lengthAt : List ℕ → ℕ → ℕ
 lengthAt s at = getD s (at + 1) 0
 
--- what stands at a place: nothing more; an attribute with a length from 2 on that stays in the area, and the place behind it; else no attribute
+-- what stands at a place: nothing more; an attribute with a length from 2 on that stays in the area, and the place after it; else no attribute
 unfoldable pub stepAt : List ℕ → ℕ → Step
 stepAt s at =
     cond (leb (length s) at) End
@@ -25,7 +25,7 @@ stepAt s at =
     (Found (record { kind = getD s at 0; at = at; size = lengthAt s at }) (at + lengthAt s at))
     Bad)
 
--- the value of an attribute, the part of the area behind its type and length
+-- the value of an attribute, the part of the area after its type and length
 unfoldable pub valueOf : List ℕ → Attribute → List ℕ
 valueOf s a = part (a .at + 2) (a .size - 2) s
 
@@ -98,8 +98,8 @@ abbrev pub valueAt : List ℕ → ℕ → List ℕ
 valueAt s at = onStep [] [] (λ a next. valueOf s a) (stepAt s at)
 
 -- the attribute n places further on
-abbrev pub behind : ℕ → Attribute → Attribute
-behind n a = record { kind = a .kind; at = n + a .at; size = a .size }
+abbrev pub shifted : ℕ → Attribute → Attribute
+shifted n a = record { kind = a .kind; at = n + a .at; size = a .size }
 
 -- an attribute as bytes: type, length, value
 abbrev pub bytesOf : ℕ → List ℕ → List ℕ

@@ -17,7 +17,7 @@ pub enum Search {
 
 // What stands at a place of the area.
 pub enum Step {
-    // An attribute, and the place behind it.
+    // An attribute, and the place after it.
     Found(Attribute, usize),
     // The area ends here.
     End,

@@ -32,7 +32,7 @@ long-case n add false false true e h = absurd (false≢true (rw (← h)))
 pub header-low : (n : ℕ) → 20 ≤ 20 + n
 header-low n = omega arith
 
--- a place behind the header and not behind the attributes
+-- a place after the header and not after the attributes
 pub ruleset places = (header-low)
 
 module _ (g : List ℕ) (code identifier : ℕ) (add : Bool) (good : badGiven (draft code identifier g add) ≡ false) where

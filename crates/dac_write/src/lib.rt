@@ -10,7 +10,7 @@ pub enum Written {
     NotWritten(u8),
 }
 
-// Writes a request of these attributes, and type 80 behind them if asked for.
+// Writes a request of these attributes, and type 80 after them if asked for.
 pub fn write_request(
     code: u32,
     identifier: u8,

@@ -38,7 +38,7 @@ fn unfit(s: &[u8]) -> bool
     loop {
         match attr_walk::step_at(s, at) {
             attr_walk::Step::Found(a, next) => {
-                if a.kind == 80 {
+                if a.kind == attr_types::MESSAGE_AUTHENTICATOR {
                     return true;
                 }
                 at = next;

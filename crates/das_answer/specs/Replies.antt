@@ -1,4 +1,4 @@
--- The reply buffer after an answer: only a NAK or an ACK writes it, at its start; the bytes behind the reply stay (document 01, "Reply").
+-- The reply buffer after an answer: only a NAK or an ACK writes it, at its start; the bytes after the reply stay (document 01, "Reply").
 -- Assumes nothing.
 use mathlib.Core.List.{List}
 use Prim.Native.Nat.{ℕ}

@@ -1,4 +1,4 @@
--- What the pass kept of a type, as a criterion, a number or a text: present exactly where one was counted. The criteria are laid one behind the other.
+-- What the pass kept of a type, as a criterion, a number or a text: present exactly where one was counted. The criteria are laid one after the other.
 -- Assumes nothing.
 use mathlib.Core.Path.{_≡_, sym, _∙_}
 use mathlib.Core.Bool.{Bool, true, false}
@@ -48,7 +48,7 @@ module _ (k : ℕ) (count ends sizes : List ℕ) (b : Bool) (is : b ≡ seenAt c
   unfolding ifThere
   with-there f n l at m h i j g = rw (← is, h, ← i, ← j, add-one) (take-suc-set l n (record { field = f; at = at; size = m }) g)
 
--- the criteria of all five types, one behind the other
+-- the criteria of all five types, one after the other
 pub with-all : (count ends sizes : List ℕ) (c₀ c₁ c₂ c₃ c₄ c₅ : List Criterion) → c₀ ≡ []
     → c₁ ≡ c₀ ++ ifThere UserName 1 count ends sizes
     → c₂ ≡ c₁ ++ ifThere NasPort 5 count ends sizes

@@ -16,7 +16,7 @@ use Rattle.table_criteria.specs.declared.Field.{Field}
 use Rattle.table_criteria.specs.declared.Field.the-variants.{UserName, NasPort, FramedAddress, CallingStation, SessionId}
 use Rattle.das_effects.specs.Matching.{fieldFor, allOf}
 
--- where the test of a type holds, those of the types behind it do not
+-- where the test of a type holds, those of the types after it do not
 split : (b m : Bool) (f : Field → Bool) (x y : Field) → (b ≡ true → m ≡ false) → cond (b || m) (f (cond b x y)) true ≡ (cond b (f x) true && cond m (f y) true)
 split true m f x y h = rw (h refl) (sym (and-true (f x)))
 split false m f x y h = refl

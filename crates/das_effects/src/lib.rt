@@ -9,6 +9,14 @@ ghost use Rattle.attr_survey.specs.Survey.{Kept};
 ghost use Rattle.attr_types.specs.Types.{misfitting};
 ghost use Rattle.das_effects.specs.Taken.{takenCriteria};
 ghost use Rattle.das_effects.specs.Changes.{alterationOf, changeOf};
+use attr_types::ACCT_SESSION_ID;
+use attr_types::CALLING_STATION_ID;
+use attr_types::FILTER_ID;
+use attr_types::FRAMED_IP_ADDRESS;
+use attr_types::IDLE_TIMEOUT;
+use attr_types::NAS_PORT;
+use attr_types::SESSION_TIMEOUT;
+use attr_types::USER_NAME;
 use table_criteria::Field;
 
 // The criteria of a request, from what the pass over its attributes kept: one for each of 1, 5, 8, 31, 44 that it has.
@@ -24,11 +32,25 @@ pub fn criteria(count: &[u8; 256], ends: &[u16; 256], sizes: &[u8; 256]) -> tabl
         count: 0,
         list: [none; 5],
     };
-    let c = taken::with(c, Field::UserName, 1, count, ends, sizes);
-    let c = taken::with(c, Field::NasPort, 5, count, ends, sizes);
-    let c = taken::with(c, Field::FramedAddress, 8, count, ends, sizes);
-    let c = taken::with(c, Field::CallingStation, 31, count, ends, sizes);
-    taken::with(c, Field::SessionId, 44, count, ends, sizes)
+    let c = taken::with(c, Field::UserName, USER_NAME, count, ends, sizes);
+    let c = taken::with(c, Field::NasPort, NAS_PORT, count, ends, sizes);
+    let c = taken::with(
+        c,
+        Field::FramedAddress,
+        FRAMED_IP_ADDRESS,
+        count,
+        ends,
+        sizes,
+    );
+    let c = taken::with(
+        c,
+        Field::CallingStation,
+        CALLING_STATION_ID,
+        count,
+        ends,
+        sizes,
+    );
+    taken::with(c, Field::SessionId, ACCT_SESSION_ID, count, ends, sizes)
 }
 
 // What a CoA alters. Its numbers have their length (404 does not apply).
@@ -41,9 +63,9 @@ fn alteration(
     requires { ⌜ Kept (now s) (now count) (now ends) (now sizes) × (any misfitting (attributes (now s)) ≡ false) ⌝ }
     ensures { λ r. ⌜ r ≡ alterationOf (now (s .entry)) ⌝ }
 {
-    let timeout = taken::number(s, 27, count, ends, sizes);
-    let idle = taken::number(s, 28, count, ends, sizes);
-    let filter = taken::text(11, count, ends, sizes);
+    let timeout = taken::number(s, SESSION_TIMEOUT, count, ends, sizes);
+    let idle = taken::number(s, IDLE_TIMEOUT, count, ends, sizes);
+    let filter = taken::text(FILTER_ID, count, ends, sizes);
     table_change::Alteration {
         timeout,
         idle,

@@ -25,7 +25,7 @@ use Rattle.das_judge.specs.declared.Judged as G
 use Rattle.das_judge.specs.declared.Judged.the-variants.{Ended, Passed}
 use Rattle.das_judge.specs.Judged.{judgedAs, replyJudged}
 use Rattle.das_handle.specs.Handle.{answerAs, answerOf, tableAs}
-use Rattle.das_handle.specs.Passed.{Committable, tableAfter, replyAfter}
+use Rattle.das_handle.specs.Passed.{Committable, tablePassed, replyPassed}
 
 abbrev passes : G.Judged → Bool
 passes (Ended a) = false
@@ -44,19 +44,19 @@ module _ (secret p t b u : List ℕ) (x : G.Judged) (v : R.Verdict) (is : x ≡ 
   pub signed-answer : r ≡ answerOf p t v
   signed-answer = given ∙ ap (answerAs p t) is
 
-  by-table : (y : G.Judged) → y ≡ judgedAs p v → tableAfter p t y ≡ tableAs p t (answerAs p t y)
+  by-table : (y : G.Judged) → y ≡ judgedAs p v → tablePassed p t y ≡ tableAs p t (answerAs p t y)
   by-table (Ended a) e = no-ack p t v a (sym e)
   by-table (Passed k) e = refl
 
-  pub signed-table : (w : List ℕ) → w ≡ tableAfter p t x → w ≡ tableAs p t r
+  pub signed-table : (w : List ℕ) → w ≡ tablePassed p t x → w ≡ tableAs p t r
   signed-table w h = h ∙ by-table x is ∙ ap (tableAs p t) (sym given)
 
-  by-reply : (y : G.Judged) → replyAfter secret p t (replyJudged secret p b y) y ≡ replyAs secret p b (answerAs p t y)
+  by-reply : (y : G.Judged) → replyPassed secret p t (replyJudged secret p b y) y ≡ replyAs secret p b (answerAs p t y)
   by-reply (Ended a) = refl
   by-reply (Passed k) = refl
 
-  pub signed-reply : (w : List ℕ) → u ≡ replyJudged secret p b x → w ≡ replyAfter secret p t u x → w ≡ replyAs secret p b r
-  signed-reply w e h = h ∙ ap (λ (l : List ℕ). replyAfter secret p t l x) e ∙ by-reply x ∙ ap (replyAs secret p b) (sym given)
+  pub signed-reply : (w : List ℕ) → u ≡ replyJudged secret p b x → w ≡ replyPassed secret p t u x → w ≡ replyAs secret p b r
+  signed-reply w e h = h ∙ ap (λ (l : List ℕ). replyPassed secret p t l x) e ∙ by-reply x ∙ ap (replyAs secret p b) (sym given)
 
 -- ---- what the commit may count on
 
@@ -96,17 +96,17 @@ module _ (p t : List ℕ) (x : G.Judged) (k k′ : ℤ) (e : x ≡ Passed k) (g 
   pub passed-arm : r ≡ answerAs p t x
   passed-arm = h ∙ rw (e, g)
 
-  pub passed-table : (w : List ℕ) → w ≡ tableAs p t r → w ≡ tableAfter p t x
+  pub passed-table : (w : List ℕ) → w ≡ tableAs p t r → w ≡ tablePassed p t x
   passed-table w i = i ∙ rw (h, e, g)
 
-  pub passed-reply : (secret b w : List ℕ) → w ≡ replyAs secret p b r → w ≡ replyAfter secret p t b x
+  pub passed-reply : (secret b w : List ℕ) → w ≡ replyAs secret p b r → w ≡ replyPassed secret p t b x
   passed-reply secret b w i = i ∙ rw (h, e, g)
 
 module _ (p t : List ℕ) (x : G.Judged) (a : D.Answer) (e : x ≡ Ended a) where
-  pub ended-table : t ≡ tableAfter p t x
+  pub ended-table : t ≡ tablePassed p t x
   ended-table = rw e
 
-  pub ended-reply : (secret b : List ℕ) → b ≡ replyAfter secret p t b x
+  pub ended-reply : (secret b : List ℕ) → b ≡ replyPassed secret p t b x
   ended-reply secret b = rw e
 
 pub commits-here : (p : List ℕ) (x : G.Judged) (k : ℤ) → ((i : ℤ) → x ≡ Passed i → Committable p) → x ≡ Passed k → Committable p

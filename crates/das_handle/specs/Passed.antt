@@ -21,10 +21,10 @@ pub record Committable (p : List ℕ) : Type 0 where
   pub once : found (firstRepeated none (attributes (areaOf p))) ≡ false
   pub short : (c : Cause) → replyLength p c ≤ 4096
 
-abbrev pub tableAfter : List ℕ → List ℕ → G.Judged → List ℕ
-tableAfter p t (Ended a) = t
-tableAfter p t (Passed skew) = tableAs p t (answerAs p t (Passed skew))
+abbrev pub tablePassed : List ℕ → List ℕ → G.Judged → List ℕ
+tablePassed p t (Ended a) = t
+tablePassed p t (Passed skew) = tableAs p t (answerAs p t (Passed skew))
 
-abbrev pub replyAfter : List ℕ → List ℕ → List ℕ → List ℕ → G.Judged → List ℕ
-replyAfter secret p t b (Ended a) = b
-replyAfter secret p t b (Passed skew) = replyAs secret p b (answerAs p t (Passed skew))
+abbrev pub replyPassed : List ℕ → List ℕ → List ℕ → List ℕ → G.Judged → List ℕ
+replyPassed secret p t b (Ended a) = b
+replyPassed secret p t b (Passed skew) = replyAs secret p b (answerAs p t (Passed skew))

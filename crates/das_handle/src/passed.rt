@@ -14,7 +14,7 @@ ghost use Rattle.das_answer.specs.Commit.{countAnswer};
 ghost use Rattle.das_answer.specs.Replies.{replyAs};
 ghost use Rattle.das_judge.specs.declared.Judged.the-variants.{Passed};
 ghost use Rattle.das_handle.specs.Handle.{answerAs, answerOf, tableAs};
-ghost use Rattle.das_handle.specs.Passed.{Committable, tableAfter, replyAfter};
+ghost use Rattle.das_handle.specs.Passed.{Committable, tablePassed, replyPassed};
 use das_judge::Judged;
 
 // No cause up to 6 applies: the live sessions that match are changed, or there are none.
@@ -57,8 +57,8 @@ fn answered(
     requires { ⌜ Kept (areaOf (now p)) (now count) (now ends) (now sizes) ⌝ }
     requires { ⌜ ((k : ℤ) → x ≡ Passed k → Committable (now p)) ⌝ }
     ensures { λ r. ⌜ r ≡ answerAs (now (p .entry)) (now (t .entry)) x ⌝ }
-    ensures { λ r. ⌜ now (t .exit) ≡ tableAfter (now (p .entry)) (now (t .entry)) x ⌝ }
-    ensures { λ r. ⌜ now (reply .exit) ≡ replyAfter (now (secret .entry)) (now (p .entry)) (now (t .entry)) (now (reply .entry)) x ⌝ }
+    ensures { λ r. ⌜ now (t .exit) ≡ tablePassed (now (p .entry)) (now (t .entry)) x ⌝ }
+    ensures { λ r. ⌜ now (reply .exit) ≡ replyPassed (now (secret .entry)) (now (p .entry)) (now (t .entry)) (now (reply .entry)) x ⌝ }
 {
     match x {
         Judged::Ended(a) => a,

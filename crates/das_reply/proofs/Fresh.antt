@@ -33,7 +33,7 @@ answered (J.Stale k) = false
 answered (J.Nak c k) = true
 answered (J.Passed k) = true
 
--- what such a verdict had behind it
+-- what such a verdict rests on
 pub record Reached (g : Settings) (p : List ℕ) (clock : ℕ) (x : R.Verdict) : Type 0 where
   pub right : badMac zeros (g .secret) p ≡ false
   pub stamp : ℕ

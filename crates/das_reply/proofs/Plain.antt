@@ -1,4 +1,4 @@
--- Areas that attributes fill and that have no type 80: of one such area behind another, and of one attribute of another type. A walk over both is the one over the second at the
+-- Areas that attributes fill and that have no type 80: of one such area after another, and of one attribute of another type. A walk over both is the one over the second at the
 -- end of the first, and moves places, not types. Assumes nothing.
 use mathlib.Core.Path.{_≡_, refl, sym, ap, _∙_}
 use mathlib.Core.Bool.{true, false}
@@ -8,7 +8,7 @@ use borrow.Author.Tests.{ne-eqb}
 use lib.Dec.{leb}
 use lib.ListN.{length}
 use Rattle.attr_walk.specs.declared.Attribute.{Attribute}
-use Rattle.attr_walk.specs.Attributes.{attributes, tiled, any, kindIs, behind, bytesOf}
+use Rattle.attr_walk.specs.Attributes.{attributes, tiled, any, kindIs, shifted, bytesOf}
 use Rattle.attr_walk.proofs.Areas.{tiled-both, attributes-append, nil-tiled, nil-attributes, bytes-tiled, bytes-attributes}
 use Rattle.attr_walk.proofs.Searches.{any-count, any-append, count-map}
 
@@ -16,9 +16,9 @@ pub record Plain (s : List ℕ) : Type 0 where
   pub tiles : tiled s ≡ true
   pub none : any (kindIs 80) (attributes s) ≡ false
 
-pub any-behind : (k n : ℕ) (l : List Attribute) → any (kindIs k) (map (behind n) l) ≡ any (kindIs k) l
-any-behind k n l =
-    any-count (kindIs k) (map (behind n) l) ∙ ap (leb 1) (count-map (kindIs k) (behind n) (λ a. refl) l) ∙ sym (any-count (kindIs k) l)
+pub any-after : (k n : ℕ) (l : List Attribute) → any (kindIs k) (map (shifted n) l) ≡ any (kindIs k) l
+any-after k n l =
+    any-count (kindIs k) (map (shifted n) l) ∙ ap (leb 1) (count-map (kindIs k) (shifted n) (λ a. refl) l) ∙ sym (any-count (kindIs k) l)
 
 pub plain-nil : Plain []
 plain-nil = record { tiles = nil-tiled; none = rw nil-attributes }
@@ -28,7 +28,7 @@ plain-both x y h g =
     record {
       tiles = tiled-both x y (h .tiles) (g .tiles);
       none =
-          rw (attributes-append x y (h .tiles), any-append (kindIs 80) (attributes x) (map (behind (length x)) (attributes y)), h .none, any-behind 80 (length x) (attributes y))
+          rw (attributes-append x y (h .tiles), any-append (kindIs 80) (attributes x) (map (shifted (length x)) (attributes y)), h .none, any-after 80 (length x) (attributes y))
           (g .none);
     }
 

@@ -47,9 +47,9 @@ module _ (head body : List ℕ) (present : Bool) (auth mac : List ℕ) (four : l
       rw in-two (part-last (head ++ auth) (body ++ macValued present mac) 20 n length-front (omega (arith, k, l, length-front)))
 
   -- what the signatures look at, from place 20 on
-  pub with-behind : drop 20 (take (packetLength body present) (packet head body present auth mac)) ≡ body ++ macValued present mac
+  pub with-after : drop 20 (take (packetLength body present) (packet head body present auth mac)) ≡ body ++ macValued present mac
   unfolding part
-  with-behind =
+  with-after =
       let n = packetLength body present in
       let r = packet head body present auth mac in
       let l = length-packet head body present auth mac four la lm in

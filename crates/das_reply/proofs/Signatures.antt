@@ -14,7 +14,7 @@ use Rattle.packet_auth.proofs.Blanked.{value-ignored}
 use Rattle.packet_auth.proofs.Messages.{Alike, same-authenticator, same-messageAuthenticator, length-zeros}
 use Rattle.packet_write.specs.Packets.{packet, packetLength, packetMac, packetAuth, signedPacket}
 use Rattle.packet_write.proofs.Packets.{length-packet, length-packetMac, length-packetAuth, ends-in}
-use Rattle.das_reply.proofs.Readback.{with-head, with-behind}
+use Rattle.das_reply.proofs.Readback.{with-head, with-after}
 
 module _ (secret base head body : List ℕ) (present : Bool) (four : length head ≡ 4) (sixteen : length base ≡ 16) where
   mac : List ℕ
@@ -29,7 +29,7 @@ module _ (secret base head body : List ℕ) (present : Bool) (four : length head
   same-with auth la =
       record {
         head = with-head head body present auth mac four la long-mac ∙ sym (with-head head body present base mac four sixteen long-mac);
-        attributes = with-behind head body present auth mac four la long-mac ∙ sym (with-behind head body present base mac four sixteen long-mac);
+        attributes = with-after head body present auth mac four la long-mac ∙ sym (with-after head body present base mac four sixteen long-mac);
       }
 
   same-packet : Alike (packetLength body present) (signedPacket secret base head body present) (packet head body present base mac)

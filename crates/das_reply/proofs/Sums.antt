@@ -1,4 +1,4 @@
--- How many bytes the attributes of an area take, all of them and those that pass a test. They stand one behind the other, so all of them take no more than the area has;
+-- How many bytes the attributes of an area take, all of them and those that pass a test. They stand one after the other, so all of them take no more than the area has;
 -- an attribute has one type, so types do not share bytes. Assumes nothing.
 use mathlib.Core.Path.{_≡_, refl}
 use mathlib.Core.Bool.{Bool, true, false, cond}

@@ -1,4 +1,4 @@
--- Type 80 behind attributes that have none: it is the only one and the last, and the others stand as before. Assumes nothing.
+-- Type 80 after attributes that have none: it is the only one and the last, and the others stand as before. Assumes nothing.
 use mathlib.Core.Path.{_≡_, _∙_}
 use mathlib.Core.Bool.{Bool, true, false}
 use mathlib.Core.List.{List, [], _∷_, _++_}
@@ -6,15 +6,15 @@ use Prim.Native.Nat.{ℕ, _+_, _≤_}
 use native.Mathlib.Omega.{arith}
 use lib.ListN.{length}
 use Rattle.attr_walk.specs.declared.Attribute.{Attribute}
-use Rattle.attr_walk.specs.Attributes.{attributes, valueOf, tiled, firstOf, countOf, kindIs, behind, bytesOf}
-use Rattle.attr_walk.proofs.Areas.{tiled-both, attributes-append, nil-tiled, nil-attributes, bytes-tiled, bytes-attributes, bytes-value, value-behind, lone}
-use Rattle.attr_walk.proofs.Searches.{any-none, count-append, first-behind}
+use Rattle.attr_walk.specs.Attributes.{attributes, valueOf, tiled, firstOf, countOf, kindIs, shifted, bytesOf}
+use Rattle.attr_walk.proofs.Areas.{tiled-both, attributes-append, nil-tiled, nil-attributes, bytes-tiled, bytes-attributes, bytes-value, value-after, lone}
+use Rattle.attr_walk.proofs.Searches.{any-none, count-append, first-after}
 use Rattle.packet_write.specs.Packets.{macValued}
 use Rattle.das_reply.proofs.Plain.{Plain}
 
 -- the attribute itself, and where it is present the list of it
 abbrev pub trailing : List ℕ → List ℕ → Attribute
-trailing body mac = behind (length body) (lone 80 mac)
+trailing body mac = shifted (length body) (lone 80 mac)
 
 abbrev pub trailer : Bool → List ℕ → List ℕ → List Attribute
 trailer true body mac = trailing body mac ∷ []
@@ -36,7 +36,7 @@ module _ (body mac : List ℕ) (plain : Plain body) (long : length mac ≡ 16) w
   trailing-tiled false = tiled-both body [] (plain .tiles) nil-tiled
 
   pub trailing-first : (present : Bool) → firstOf (kindIs 80) (attributes (body ++ macValued present mac)) ≡ firstOf (kindIs 80) (trailer present body mac)
-  trailing-first present = rw (trailing-attributes present) (first-behind (kindIs 80) (attributes body) (trailer present body mac) (plain .none))
+  trailing-first present = rw (trailing-attributes present) (first-after (kindIs 80) (attributes body) (trailer present body mac) (plain .none))
 
   few : (present : Bool) → countOf (kindIs 80) (trailer present body mac) ≤ 1
   few true = omega arith
@@ -48,4 +48,4 @@ module _ (body mac : List ℕ) (plain : Plain body) (long : length mac ≡ 16) w
       (omega (arith, few present))
 
   pub trailing-value : valueOf (body ++ macValued true mac) (trailing body mac) ≡ mac
-  trailing-value = rw as-bytes (value-behind body (bytesOf 80 mac) (lone 80 mac) ∙ bytes-value 80 mac)
+  trailing-value = rw as-bytes (value-after body (bytesOf 80 mac) (lone 80 mac) ∙ bytes-value 80 mac)

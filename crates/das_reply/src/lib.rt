@@ -28,7 +28,7 @@ pub fn write_reply(
 {
     let s = octet_runs::slice(p, 20, n - 20);
     let auth = octet_runs::slice(p, 4, 16);
-    let present = attr_lookup::has(count, 80);
+    let present = attr_lookup::has(count, attr_types::MESSAGE_AUTHENTICATOR);
     let body = das_reply_parts::put_body(&mut *reply, s, cause, count, ends, sizes);
     let e = packet_write::put_room(&mut *reply, body, present);
     das_reply_parts::put_head(&mut *reply, p, cause, e, auth);

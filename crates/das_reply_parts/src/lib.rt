@@ -1,4 +1,4 @@
-// The parts of a reply, each written behind the one before; the head comes last, since it tells the length.
+// The parts of a reply, each written after the one before; the head comes last, since it tells the length.
 ghost use mathlib.Core.Path.{_≡_};
 ghost use mathlib.Core.Bool.{cond};
 ghost use mathlib.Core.List.{_++_};
@@ -11,6 +11,9 @@ ghost use Rattle.attr_survey.specs.Survey.{Kept};
 ghost use Rattle.packet_form.specs.Packet.{codeOf};
 ghost use Rattle.rule_causes.specs.Causes.{applies};
 ghost use Rattle.das_reply_parts.specs.Reply.{asCame, statePart, causePart, proxyPart, replyLength, headOf};
+use attr_types::ERROR_CAUSE;
+use attr_types::PROXY_STATE;
+use attr_types::STATE;
 use attr_walk::Attribute;
 use packet_write::put;
 use rule_causes::Cause;
@@ -39,10 +42,14 @@ fn put_state(
     ensures { λ r. ⌜ now (t .exit) ≡ write (now (t .entry)) to (statePart (now (s .entry))) ⌝ }
     ensures { λ r. ⌜ r ≡ to + length (statePart (now (s .entry))) ⌝ }
 {
-    if attr_lookup::has(count, 24) {
-        let size = sizes[24];
-        let at = attr_lookup::start_of(ends, sizes, 24);
-        let a = Attribute { kind: 24, at, size };
+    if attr_lookup::has(count, STATE) {
+        let size = sizes[STATE as usize];
+        let at = attr_lookup::start_of(ends, sizes, STATE);
+        let a = Attribute {
+            kind: STATE,
+            at,
+            size,
+        };
         return put_attribute(t, to, s, a);
     }
     to
@@ -57,7 +64,7 @@ fn put_cause(t: &mut [u8], to: usize, cause: Cause) -> usize
     if applies(cause) {
         let mut v = [0u8; 4];
         octet_numbers::put_be32(&mut v, 0, rule_causes::error_cause(cause));
-        return put(t, to, 101, 6, &v);
+        return put(t, to, ERROR_CAUSE, 6, &v);
     }
     to
 }
@@ -73,7 +80,7 @@ fn put_proxies(t: &mut [u8], from: usize, s: &[u8]) -> usize
     loop {
         match attr_walk::step_at(s, at) {
             attr_walk::Step::Found(a, next) => {
-                if a.kind == 33 {
+                if a.kind == PROXY_STATE {
                     to = put_attribute(&mut *t, to, s, a);
                 }
                 at = next;

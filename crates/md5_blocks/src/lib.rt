@@ -46,7 +46,7 @@ fn hash(q: State, w: &mut [u32], m: &[u8]) -> State
     r
 }
 
-// The words after the whole blocks of m; bytes behind the last whole block are not looked at. Where there is no block no memory is set up.
+// The words after the whole blocks of m; bytes after the last whole block are not looked at. Where there is no block no memory is set up.
 pub fn blocks(q: State, m: &[u8]) -> State
     ensures { λ r. ⌜ r ≡ after q (length (now (m .entry)) / 64) (now (m .entry)) ⌝ }
 {

@@ -1,4 +1,4 @@
--- The last one or two blocks. The buffer is the message's rest with its padding: one block where the count still fits behind it, else two.
+-- The last one or two blocks. The buffer is the message's rest with its padding: one block where the count still fits after it, else two.
 -- Assumes nothing.
 use mathlib.Core.Path.{_≡_, refl, sym, ap, _∙_}
 use mathlib.Core.List.{List, [], _∷_, _++_, append-assoc}
@@ -22,7 +22,7 @@ module _ (n : ℕ) (m : List ℕ) (q : State) (buf : List ℕ) (held : Held n m 
       let c : n ≡ length m = held .count in
       rw (block-count m, ← c, e) (ap output (more-words n m q buf held k (padding n)))
 
-  -- the count fits behind the rest
+  -- the count fits after the rest
   pub one-block : (b b′ : List ℕ) (r : State) (d : List ℕ) → b ≡ write buf (n % 64) (0x80 ∷ [])
       → b′ ≡ write b (n % 64 + 1) (replicate (56 - (n % 64 + 1)) 0 ++ leBytes 8 (n * 8)) → n % 64 < 56 → r ≡ after q (length b′ / 64) b′ → d ≡ output r → d ≡ md5 m
   one-block b b′ r d e e′ h g o =

@@ -23,7 +23,7 @@ pub held-as : (n n′ : ℕ) (m m′ : List ℕ) (q : State) (buf : List ℕ) �
 held-as n n′ m m′ q buf e g h = rw (e, g) at h
 
 module _ (n : ℕ) (m : List ℕ) (q : State) (buf : List ℕ) (held : Held n m q buf) where
-  -- the words do not see a piece behind
+  -- the words do not see a piece after
   same-words : (s : List ℕ) → q ≡ after initial (n / 64) (m ++ s)
   same-words s = held .words ∙ sym (after-append initial (n / 64) m s (omega (arith, held .count)))
 
@@ -98,7 +98,7 @@ held-across n j m s buf b b′ q r r′ held long ej h e g then =
     let more = then (n + length (take j s)) (m ++ take j s) (omega arith) full in
     held-as _ _ _ _ r′ b′ (simp (all, length-drop) (omega arith)) (rw all (append-assoc m (take j s) (drop j s) ∙ rw take-append-drop)) more
 
--- one piece behind none
+-- one piece after none
 pub held-whole : (s buf b d : List ℕ) (q₀ q : State) → q₀ ≡ initial → ((m : List ℕ) → Held 0 m q₀ buf → Held (0 + length s) (m ++ s) q b)
     → ((m : List ℕ) → Held (length s) m q b → d ≡ md5 m) → d ≡ md5 s
 held-whole s buf b d q₀ q e f g = g s (held-as (0 + length s) (length s) s s q b (zero-add (length s)) refl (f [] (rw e (held-none buf))))

@@ -8,7 +8,7 @@ use lib.ListN.{length, take, drop}
 use Rattle.md5_ops.specs.declared.State.{State}
 use Rattle.md5_ops.specs.Md5.{after, initial}
 
--- the words are those after the whole blocks of the message m; the bytes behind them stand at the start of the buffer
+-- the words are those after the whole blocks of the message m; the bytes after them stand at the start of the buffer
 pub record Held (n : ℕ) (m : List ℕ) (q : State) (buf : List ℕ) : Type 0 where
   pub count : n ≡ length m
   pub words : q ≡ after initial (n / 64) m

@@ -18,7 +18,7 @@ fn aligned(buf: &mut [u8], q: State, s: &[u8]) -> State
     r
 }
 
-// A piece of any length behind the n bytes held.
+// A piece of any length after the n bytes held.
 pub fn update(buf: &mut [u8], q: State, n: usize, s: &[u8]) -> State
     requires { ⌜ length (now buf) ≡ 64 ⌝ }
     ensures { λ r. ⌜ ((m : List ℕ) → Held n m q (now (buf .entry)) → Held (n + length (now (s .entry))) (m ++ now (s .entry)) r (now (buf .exit))) ⌝ }

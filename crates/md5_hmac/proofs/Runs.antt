@@ -31,7 +31,7 @@ module _ (c : ℕ) (k : List ℕ) where
       let l : length (keyPad c (shortKey k)) ≡ 64 = length-keyPad c (shortKey k) (length-shortKey k) in
       record { count = sym l; words = e; rest = sym (drop-of-length-le (keyPad c (shortKey k)) {i = 64} (omega arith)) }
 
--- the inner digest behind the outer pad
+-- the inner digest after the outer pad
 pub outer-run : (k m buf b b′ h d : List ℕ) (n : ℕ) (q p r : State) → ((l : List ℕ) → Held n l q buf → h ≡ md5 l) → p ≡ after initial 1 (outerPad k)
     → ((l : List ℕ) → Held 64 l p b → Held (64 + length h) (l ++ h) r b′) → ((l : List ℕ) → Held 80 l r b′ → d ≡ md5 l)
     → Held n (innerPad k ++ m) q buf → d ≡ hmac k m
@@ -42,7 +42,7 @@ outer-run k m buf b b′ h d n q p r inner e more last held =
     last (outerPad k ++ h) (held-as (64 + length h) 80 (outerPad k ++ h) (outerPad k ++ h) r b′ long refl (more (outerPad k) (held-key 0x5c k p b e)))
     ∙ ap (λ (l : List ℕ). md5 (outerPad k ++ l)) is
 
--- one piece behind the inner pad
+-- one piece after the inner pad
 pub whole-run : (k s buf b d : List ℕ) (p q : State) → ((l : List ℕ) → Held 64 (innerPad k) p l) → ((l : List ℕ) → Held 64 l p buf → Held (64 + length s) (l ++ s) q b)
     → ((l : List ℕ) → Held (64 + length s) (innerPad k ++ l) q b → d ≡ hmac k l) → d ≡ hmac k s
 whole-run k s buf b d p q first more last = last s (more (innerPad k) (first buf))

@@ -1,4 +1,4 @@
--- The words after blocks of a message. A block is cut out by its place alone, so what stands behind it changes nothing, and blocks
+-- The words after blocks of a message. A block is cut out by its place alone, so what stands after it changes nothing, and blocks
 -- can be taken in two parts. The padding fills the message up to whole blocks by the choice of its zeros. Assumes nothing.
 use mathlib.Core.Path.{_≡_, refl, _∙_}
 use mathlib.Core.List.{List, _++_}

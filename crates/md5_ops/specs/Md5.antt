@@ -24,7 +24,7 @@ abbrev pub leBytes : ℕ → ℕ → List ℕ
 leBytes zero n = []
 leBytes (suc k) n = n % 256 ∷ leBytes k (n / 256)
 
--- 3.1 and 3.2, behind n bytes: a 1 bit, 0 bits until 8 bytes are missing from a multiple of 64, and n in bits
+-- 3.1 and 3.2, after n bytes: a 1 bit, 0 bits until 8 bytes are missing from a multiple of 64, and n in bits
 abbrev pub padding : ℕ → List ℕ
 padding n = 0x80 ∷ replicate ((119 - n % 64) % 64) 0 ++ leBytes 8 (n * 8)
 

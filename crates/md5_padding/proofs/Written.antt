@@ -1,4 +1,4 @@
--- What the writes of the end leave: a write behind a write is one write, so the count is its two words and the digest its four.
+-- What the writes of the end leave: a write after a write is one write, so the count is its two words and the digest its four.
 -- Assumes nothing.
 use mathlib.Core.Path.{_≡_, refl, sym, ap, _∙_}
 use mathlib.Core.List.{List, _∷_, _++_}
@@ -34,7 +34,7 @@ count-law n b b′ buf e g =
     let z : n % 0x2000000000000000 * 8 ≡ n * 8 % 256 ^ 8 = omega arith in
     write-then b b′ buf 56 60 _ _ e g refl ∙ ap (write buf 56) (two-words (n % 0x2000000000000000 * 8) ∙ ap (leBytes 8) z ∙ low-bytes 8 (n * 8))
 
--- the four words, written one behind the other over all of buf
+-- the four words, written one after the other over all of buf
 pub words-law : (q : State) (b b₁ b₂ b₃ buf : List ℕ) → b ≡ write buf 0 (leBytes 4 (q .a)) → b₁ ≡ write b 4 (leBytes 4 (q .b)) → b₂ ≡ write b₁ 8 (leBytes 4 (q .c))
     → b₃ ≡ write b₂ 12 (leBytes 4 (q .d)) → length buf ≡ 16 → b₃ ≡ output q
 words-law q b b₁ b₂ b₃ buf e e₁ e₂ e₃ long =

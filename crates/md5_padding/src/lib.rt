@@ -1,4 +1,4 @@
-// What MD5 puts behind a message, and the words as bytes.
+// What MD5 puts after a message, and the words as bytes.
 ghost use mathlib.Core.Path.{_≡_};
 ghost use mathlib.Core.List.{[], _∷_, _++_};
 ghost use Prim.Native.Nat.{_+_, _-_, _*_, _<_, _≤_};
@@ -56,7 +56,7 @@ pub fn put_end(buf: &mut [u8], at: usize, n: usize)
     put_count(buf, n);
 }
 
-// The byte behind the message.
+// The byte after the message.
 pub fn put_mark(buf: &mut [u8], at: usize)
     requires { ⌜ at < length (now buf) ⌝ }
     ensures { λ _. ⌜ now (buf .exit) ≡ write (now (buf .entry)) at (0x80 ∷ []) ⌝ }

@@ -1,4 +1,4 @@
--- The loops that write: what a loop has made of the list l after each turn is a write of so many bytes, so a turn adds its bytes behind them.
+-- The loops that write: what a loop has made of the list l after each turn is a write of so many bytes, so a turn adds its bytes after them.
 -- Assumes nothing.
 use mathlib.Core.Path.{_≡_, refl, sym, ap, _∙_}
 use mathlib.Core.List.{List, [], _∷_, _++_}

@@ -11,7 +11,7 @@ use lib.ListN.{length, getD, length-append, List·getD-append}
 use lib.Seq.{getD-append-seam}
 use Rattle.octet_numbers.specs.Numbers.{be, beBytes}
 use Rattle.octet_numbers.specs.Runs.{part, write}
-use Rattle.octet_numbers.proofs.Write.{byte-before, byte-behind, byte-within}
+use Rattle.octet_numbers.proofs.Write.{byte-before, byte-after, byte-within}
 use Rattle.octet_numbers.proofs.Part.{byte-part}
 
 pub be-two : (l : List ℕ) (at r : ℕ) → r ≡ getD l at 0 * 256 + getD l (at + 1) 0 → r ≡ be at 2 l
@@ -33,12 +33,12 @@ unfolding be
 be-same zero l m i j f = refl
 be-same (suc n) l m i j f = rw (be-same n l m i j (λ k h. f k (omega arith)), f n (omega arith))
 
--- a number before the bytes written, and behind them
+-- a number before the bytes written, and after them
 pub be-before : (n : ℕ) (l : List ℕ) (i : ℕ) (vs : List ℕ) (at : ℕ) → at + n ≤ i → be at n (write l i vs) ≡ be at n l
 be-before n l i vs at h = be-same n (write l i vs) l at at (λ k g. byte-before l i vs (at + k) (omega arith))
 
-pub be-behind : (n : ℕ) (l : List ℕ) (i : ℕ) (vs : List ℕ) (at : ℕ) → i + length vs ≤ at → be at n (write l i vs) ≡ be at n l
-be-behind n l i vs at h = be-same n (write l i vs) l at at (λ k g. byte-behind l i vs (at + k) (omega arith))
+pub be-after : (n : ℕ) (l : List ℕ) (i : ℕ) (vs : List ℕ) (at : ℕ) → i + length vs ≤ at → be at n (write l i vs) ≡ be at n l
+be-after n l i vs at h = be-same n (write l i vs) l at at (λ k g. byte-after l i vs (at + k) (omega arith))
 
 -- a number in a part
 pub be-part : (n : ℕ) (l : List ℕ) (i m at : ℕ) → at + n ≤ m → be at n (part i m l) ≡ be (i + at) n l

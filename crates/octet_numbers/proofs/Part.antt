@@ -23,7 +23,7 @@ pub part-of : (i n : ℕ) (l : List ℕ) → take (i + n - i) (drop i l) ≡ par
 unfolding part
 part-of i n l = let e : i + n - i ≡ n = omega arith in rw e
 
--- a part behind the end, and one that the list ends in
+-- a part after the end, and one that the list ends in
 pub part-past : (i n : ℕ) (l : List ℕ) → length l ≤ i → take 0 l ≡ part i n l
 unfolding part
 part-past i n l h = rw (drop-of-length-le l h) (sym (take-nil n))
@@ -52,16 +52,16 @@ unfolding part
 kept-before [] l i m n h = refl
 kept-before (a ∷ vs) l i m n h = kept-before vs (set l i a) (suc i) m n (omega arith) ∙ ap (take n) (drop-set-lt m l i a (omega arith))
 
-store-behind : (l : List ℕ) (i a m n : ℕ) → m + n ≤ i → part m n (set l i a) ≡ part m n l
+store-after : (l : List ℕ) (i a m n : ℕ) → m + n ≤ i → part m n (set l i a) ≡ part m n l
 unfolding part
-store-behind l i a m n h =
+store-after l i a m n h =
     let e : i ≡ m + (i - m) = omega arith in
     let g : n ≤ i - m = omega arith in
     ap (λ (k : ℕ). take n (drop m (set l k a))) e ∙ ap (take n) (drop-set-add m l (i - m) a) ∙ take-set-le n (drop m l) (i - m) a g
 
-kept-behind : (vs l : List ℕ) (i m n : ℕ) → m + n ≤ i → part m n (sets l i vs) ≡ part m n l
-kept-behind [] l i m n h = refl
-kept-behind (a ∷ vs) l i m n h = kept-behind vs (set l i a) (suc i) m n (omega arith) ∙ store-behind l i a m n h
+kept-after : (vs l : List ℕ) (i m n : ℕ) → m + n ≤ i → part m n (sets l i vs) ≡ part m n l
+kept-after [] l i m n h = refl
+kept-after (a ∷ vs) l i m n h = kept-after vs (set l i a) (suc i) m n (omega arith) ∙ store-after l i a m n h
 
 inside : (vs l : List ℕ) (m n i : ℕ) → i + length vs ≤ n → part m n (sets l (m + i) vs) ≡ sets (part m n l) i vs
 unfolding part
@@ -70,14 +70,14 @@ inside (a ∷ vs) l m n i h =
     rw (← (add-suc m i)) (inside vs (set l (m + i) a) m n (suc i) (omega arith))
     ∙ ap (λ (t : List ℕ). sets t (suc i) vs) (ap (take n) (drop-set-add m l i a) ∙ take-set-lt n (drop m l) i a (omega arith))
 
--- a part behind the bytes written, and one before them
-pub part-behind : (l : List ℕ) (i : ℕ) (vs : List ℕ) (m n : ℕ) → i + length vs ≤ m → part m n (write l i vs) ≡ part m n l
+-- a part after the bytes written, and one before them
+pub part-after : (l : List ℕ) (i : ℕ) (vs : List ℕ) (m n : ℕ) → i + length vs ≤ m → part m n (write l i vs) ≡ part m n l
 unfolding write
-part-behind l i vs m n h = kept-before vs l i m n h
+part-after l i vs m n h = kept-before vs l i m n h
 
 pub part-before : (l : List ℕ) (i : ℕ) (vs : List ℕ) (m n : ℕ) → m + n ≤ i → part m n (write l i vs) ≡ part m n l
 unfolding write
-part-before l i vs m n h = kept-behind vs l i m n h
+part-before l i vs m n h = kept-after vs l i m n h
 
 -- a write within a part is that write to the part
 pub part-write : (l : List ℕ) (m n i : ℕ) (vs : List ℕ) → i + length vs ≤ n → part m n (write l (m + i) vs) ≡ write (part m n l) i vs

@@ -83,23 +83,23 @@ before : (vs l : List ℕ) (i k : ℕ) → k < i → getD (sets l i vs) k 0 ≡ 
 before [] l i k h = refl
 before (a ∷ vs) l i k h = before vs (set l i a) (suc i) k (omega arith) ∙ getD-set-other l i k a 0 (λ e. omega arith)
 
-behind : (vs l : List ℕ) (i k : ℕ) → i + length vs ≤ k → getD (sets l i vs) k 0 ≡ getD l k 0
-behind [] l i k h = refl
-behind (a ∷ vs) l i k h = behind vs (set l i a) (suc i) k (omega arith) ∙ getD-set-other l i k a 0 (λ e. omega arith)
+past-written : (vs l : List ℕ) (i k : ℕ) → i + length vs ≤ k → getD (sets l i vs) k 0 ≡ getD l k 0
+past-written [] l i k h = refl
+past-written (a ∷ vs) l i k h = past-written vs (set l i a) (suc i) k (omega arith) ∙ getD-set-other l i k a 0 (λ e. omega arith)
 
 within : (vs l : List ℕ) (i j : ℕ) → j < length vs → i + length vs ≤ length l → getD (sets l i vs) (i + j) 0 ≡ getD vs j 0
 within (a ∷ vs) l i zero h r = rw add-zero (before vs (set l i a) (suc i) i (omega arith) ∙ getD-set-same l i a 0 (omega arith))
 within (a ∷ vs) l i (suc j) h r = rw (add-suc, ← (suc-add i j)) (within vs (set l i a) (suc i) j (omega arith) (rw length-set (omega arith)))
 within [] l i j h r = absurd (omega arith)
 
--- a byte before what was written, behind it, and within it
+-- a byte before what was written, after it, and within it
 pub byte-before : (l : List ℕ) (i : ℕ) (vs : List ℕ) (k : ℕ) → k < i → getD (write l i vs) k 0 ≡ getD l k 0
 unfolding write
 byte-before l i vs k h = before vs l i k h
 
-pub byte-behind : (l : List ℕ) (i : ℕ) (vs : List ℕ) (k : ℕ) → i + length vs ≤ k → getD (write l i vs) k 0 ≡ getD l k 0
+pub byte-after : (l : List ℕ) (i : ℕ) (vs : List ℕ) (k : ℕ) → i + length vs ≤ k → getD (write l i vs) k 0 ≡ getD l k 0
 unfolding write
-byte-behind l i vs k h = behind vs l i k h
+byte-after l i vs k h = past-written vs l i k h
 
 pub byte-within : (l : List ℕ) (i : ℕ) (vs : List ℕ) (j : ℕ) → j < length vs → i + length vs ≤ length l → getD (write l i vs) (i + j) 0 ≡ getD vs j 0
 unfolding write

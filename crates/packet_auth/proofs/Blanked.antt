@@ -1,4 +1,4 @@
--- The message under the Message-Authenticator in pieces: the front, the attributes up to the value, zeros, the attributes behind it. So the
+-- The message under the Message-Authenticator in pieces: the front, the attributes up to the value, zeros, the attributes after it. So the
 -- value itself is not looked at, and it may be written where it belongs after it was worked out. Assumes nothing.
 use mathlib.Core.Path.{_≡_, ap, _∙_}
 use mathlib.Core.List.{List, _++_}
@@ -7,7 +7,7 @@ use native.Mathlib.Omega.{arith}
 use lib.ListN.{length, take, drop, replicate, length-append, length-take, length-drop}
 use lib.Seq.{take-append-add, drop-append-add, take-take, drop-drop}
 use Rattle.octet_numbers.specs.Runs.{part, write}
-use Rattle.octet_numbers.proofs.Part.{drop-take, part-before, part-behind}
+use Rattle.octet_numbers.proofs.Part.{drop-take, part-before, part-after}
 use Rattle.octet_numbers.proofs.Write.{length-write}
 use Rattle.packet_auth.specs.Signing.{zeros, withAuth, blanked, messageAuthenticator}
 use Rattle.packet_auth.proofs.Messages.{between}
@@ -55,5 +55,5 @@ value-ignored auth p n at v secret fits long from to lv =
       blanked-pieces auth p n at fits long from to,
       part-before p at v 0 4 (omega arith),
       part-before p at v 20 (at - 20) (omega arith),
-      part-behind p at v (at + 16) (n - (at + 16)) (omega arith),
+      part-after p at v (at + 16) (n - (at + 16)) (omega arith),
     )

@@ -1,5 +1,5 @@
 -- The messages under the signatures: their lengths, and what they do not look at. They take bytes 0 to 3 and those from 20 up to Length,
--- so two packets that agree there have the same signatures, whatever stands in the authenticator's place or behind Length. Assumes nothing.
+-- so two packets that agree there have the same signatures, whatever stands in the authenticator's place or after Length. Assumes nothing.
 use mathlib.Core.Path.{_≡_, refl, sym, ap, _∙_}
 use mathlib.Core.List.{List}
 use Prim.Native.Nat.{ℕ, _+_, _-_, _≤_}

@@ -1,4 +1,4 @@
--- What a packet is signed with (document 01, "The packet"; RFC 2865, 3; RFC 5176, 3.4). p is a packet, n its Length; bytes behind Length are not looked at.
+-- What a packet is signed with (document 01, "The packet"; RFC 2865, 3; RFC 5176, 3.4). p is a packet, n its Length; bytes after Length are not looked at.
 -- Assumes nothing.
 use mathlib.Core.List.{List, _++_}
 use Prim.Native.Nat.{ℕ, _+_}

@@ -1,4 +1,4 @@
-// The authenticators of a packet where it lies: p is the packet, n its Length, bytes behind Length are not looked at.
+// The authenticators of a packet where it lies: p is the packet, n its Length, bytes after Length are not looked at.
 ghost use mathlib.Core.Path.{_≡_};
 ghost use mathlib.Core.List.{_++_};
 ghost use Prim.Native.Nat.{_≤_};

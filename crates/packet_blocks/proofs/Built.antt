@@ -1,4 +1,4 @@
--- A block of the signed request as the code has it: put together from its parts, each laid behind those before it, or taken from the packet,
+-- A block of the signed request as the code has it: put together from its parts, each laid after those before it, or taken from the packet,
 -- whose bytes from 20 up to Length are the message's. Assumes nothing.
 use mathlib.Core.Path.{_≡_, refl, sym, ap, _∙_}
 use mathlib.Core.List.{List, [], _∷_, _++_, append-assoc}
@@ -43,7 +43,7 @@ take-replicate zero n a h = refl
 take-replicate (suc z) zero a h = absurd (omega arith)
 take-replicate (suc z) (suc n) a h = ap (λ (l : List ℕ). a ∷ l) (take-replicate z n a (omega arith))
 
--- the code's mark with zeros behind it, e bytes in all
+-- the code's mark with zeros after it, e bytes in all
 abbrev marked : ℕ → List ℕ
 marked e = take {A = ℕ} e (0x80 ∷ replicate 63 0)
 

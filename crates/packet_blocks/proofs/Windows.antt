@@ -1,5 +1,5 @@
--- A block as a window on a message that grows: a part laid behind the message is seen where it overlaps the window. The three cases go by
--- where the part begins: before the window, in it, or behind it. Assumes nothing.
+-- A block as a window on a message that grows: a part laid after the message is seen where it overlaps the window. The three cases go by
+-- where the part begins: before the window, in it, or after it. Assumes nothing.
 use mathlib.Core.Path.{_≡_, sym, ap, _∙_}
 use mathlib.Core.List.{List, [], _++_}
 use Prim.Native.Nat.{ℕ, _+_, _-_, _<_, _≤_}
@@ -50,8 +50,8 @@ module _ (s at : ℕ) (m v b : List ℕ) (long : length m ≡ at) (held : b ≡ 
       ap (take 64) (drop-append-le s m v (omega arith)) ∙ ap (λ (k : ℕ). take k (drop s m ++ v)) sum ∙ take-append-add (drop s m) v (64 - i) in
       rw d (write-then b b′ (replicate 64 0) 0 i (drop s m) (take (64 - i) v) (held ∙ rw here) (e ∙ rw g) (omega arith))
 
-  -- it begins behind the window
-  pub laid-behind : (i : ℕ) → s ≤ at → i ≡ at - s → 64 ≤ i → b ≡ window s (m ++ v)
+  -- it begins after the window
+  pub laid-after : (i : ℕ) → s ≤ at → i ≡ at - s → 64 ≤ i → b ≡ window s (m ++ v)
   unfolding window part
-  laid-behind i h j l =
+  laid-after i h j l =
       held ∙ rw (drop-append-le s m v (omega arith), take-append-le 64 (drop s m) v (simp length-drop (omega arith)))

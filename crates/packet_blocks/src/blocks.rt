@@ -8,7 +8,7 @@ ghost use Rattle.packet_auth.specs.Signing.{zeros, withAuth};
 ghost use Rattle.packet_blocks.specs.Block.{blockCount, requestBlock};
 ghost use Rattle.packet_blocks.specs.Window.{window};
 
-// The buffer is the block from place s on of a message of at bytes; then it is that of the message with v behind it.
+// The buffer is the block from place s on of a message of at bytes; then it is that of the message with v after it.
 fn lay(buf: &mut [u8], s: usize, at: usize, v: &[u8])
     requires { ⌜ length (now buf) ≡ 64 ⌝ }
     ensures { λ _. ⌜ ((m : List ℕ) → length m ≡ at → now (buf .entry) ≡ window s m → now (buf .exit) ≡ window s (m ++ now (v .entry))) ⌝ }
@@ -44,7 +44,7 @@ fn count(t: usize) -> [u8; 8]
     [(v % 256) as u8, (v / 256) as u8, 0, 0, 0, 0, 0, 0]
 }
 
-// The padding behind a message of t bytes.
+// The padding after a message of t bytes.
 fn lay_padding(buf: &mut [u8], s: usize, t: usize)
     requires { ⌜ (length (now buf) ≡ 64) × (t < 8192) ⌝ }
     ensures { λ _. ⌜ ((m : List ℕ) → length m ≡ t → now (buf .entry) ≡ window s m → now (buf .exit) ≡ window s (m ++ padding t)) ⌝ }

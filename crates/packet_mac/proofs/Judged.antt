@@ -3,7 +3,7 @@
 use mathlib.Core.Path.{_≡_, refl, sym, ap, _∙_}
 use mathlib.Core.Bool.{Bool, true, false, not, false≢true}
 use mathlib.Core.List.{List}
-use Prim.Native.Nat.{ℕ, zero, suc, _+_, _-_, _<_, _≤_}
+use Prim.Native.Nat.{ℕ, _+_, _-_, _<_, _≤_}
 use native.Mathlib.Omega.{arith}
 use borrow.Author.Tests.{lt-ltb, le-ltb, ne-eqb}
 use lib.Dec.{lit<}
@@ -19,24 +19,9 @@ use Rattle.attr_walk.proofs.Stands.{first-placed}
 use Rattle.packet_form.specs.Packet.{lengthOf, areaOf}
 use Rattle.packet_form.specs.Discards.{Sized}
 use Rattle.packet_auth.specs.Signing.{zeros, messageAuthenticator}
-use Rattle.attr_survey.specs.Survey.{Kept, Counted, upToTwo, endOf, sizeOf}
+use Rattle.attr_survey.specs.Survey.{Kept, Counted, endOf, sizeOf}
+use Rattle.attr_survey.proofs.UpToTwo.{two-none, two-one, two-more}
 use Rattle.packet_mac.specs.Discards.{wrongMac, badMac}
-
--- a count up to two
-two-none : (n : ℕ) → upToTwo n ≡ 0 → n ≡ 0
-two-none zero e = refl
-two-none (suc zero) e = absurd (omega arith)
-two-none (suc (suc n)) e = absurd (omega arith)
-
-two-one : (n : ℕ) → upToTwo n ≡ 1 → n ≡ 1
-two-one zero e = absurd (omega arith)
-two-one (suc zero) e = refl
-two-one (suc (suc n)) e = absurd (omega arith)
-
-two-more : (n : ℕ) → (upToTwo n ≡ 0 → ⊥) → (upToTwo n ≡ 1 → ⊥) → 1 < n
-two-more zero h g = absurd (h refl)
-two-more (suc zero) h g = absurd (g refl)
-two-more (suc (suc n)) h g = omega arith
 
 on-missing : (q : Attribute → Bool) (z : Search) → found z ≡ false → onFirst q z ≡ false
 on-missing q (At a) h = absurd (false≢true (sym h))

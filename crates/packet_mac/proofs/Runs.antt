@@ -1,4 +1,4 @@
--- The Message-Authenticator as a run of calls: behind the key's block come the front, the attributes up to the value, zeros, the attributes behind it.
+-- The Message-Authenticator as a run of calls: after the key's block come the front, the attributes up to the value, zeros, the attributes after it.
 -- Each call says what it holds of every message, and these pieces are the definition's message. Assumes nothing.
 use mathlib.Core.Path.{_≡_, refl}
 use mathlib.Core.List.{List, _++_, append-assoc}

@@ -10,7 +10,7 @@ use Rattle.attr_walk.specs.Attributes.{attributes, valueOf, any, countOf, kindI
 use Rattle.packet_form.specs.Packet.{lengthOf, areaOf}
 use Rattle.packet_auth.specs.Signing.{messageAuthenticator}
 
--- type 80 not of length 18, or wrong: its value stands two bytes behind its place, and the area begins at place 20.
+-- type 80 not of length 18, or wrong: its value stands two bytes after its place, and the area begins at place 20.
 -- `auth` stands in the authenticator's place: zeros in a request, the request's authenticator in a reply.
 unfoldable pub wrongMac : List ℕ → List ℕ → List ℕ → Attribute → Bool
 wrongMac auth secret p a = not (eqb (a .size) 18) || not (equalBytes (valueOf (areaOf p) a) (messageAuthenticator auth p (lengthOf p) (22 + a .at) secret))

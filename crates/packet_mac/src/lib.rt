@@ -1,4 +1,4 @@
-// The Message-Authenticator of a packet; D5 is that of a request. p is the packet, n its Length, bytes behind Length are not looked at.
+// The Message-Authenticator of a packet; D5 is that of a request. p is the packet, n its Length, bytes after Length are not looked at.
 ghost use mathlib.Core.Path.{_≡_};
 ghost use Prim.Native.Nat.{_+_, _≤_};
 ghost use lib.ListN.{length};
@@ -8,6 +8,7 @@ ghost use Rattle.packet_form.specs.Discards.{Sized};
 ghost use Rattle.packet_auth.specs.Signing.{zeros, messageAuthenticator};
 ghost use Rattle.attr_survey.specs.Survey.{Kept};
 ghost use Rattle.packet_mac.specs.Discards.{badMac};
+use attr_types::MESSAGE_AUTHENTICATOR;
 
 // The Message-Authenticator whose value stands at place at: auth is zeros for a request, the request's authenticator for a reply.
 pub fn message_authenticator(p: &[u8], n: usize, auth: &[u8], at: usize, secret: &[u8]) -> [u8; 16]
@@ -47,17 +48,17 @@ pub fn bad_mac(
     requires { ⌜ Kept (areaOf (now p)) (now count) (now ends) (now sizes) ⌝ }
     ensures { λ r. ⌜ r ≡ badMac (now (auth .entry)) (now (secret .entry)) (now (p .entry)) ⌝ }
 {
-    let number = count[80];
+    let number = count[MESSAGE_AUTHENTICATOR as usize];
     if number == 0 {
         return false;
     }
     if number != 1 {
         return true;
     }
-    if sizes[80] != 18 {
+    if sizes[MESSAGE_AUTHENTICATOR as usize] != 18 {
         return true;
     }
-    let end = octet_numbers::wide16(ends[80]);
+    let end = attr_lookup::end_of(ends, MESSAGE_AUTHENTICATOR);
     !mac_right(p, n, auth, end + 4, secret)
 }
 

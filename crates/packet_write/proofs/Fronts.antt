@@ -55,6 +55,6 @@ front-written auth l t₁ t₂ code identifier n e₁ e₂ =
 pub front-long : (l t₁ t₂ auth : List ℕ) (i j k m a b : ℕ) (vs : List ℕ) → t₁ ≡ write (set (set l i a) j b) k vs → t₂ ≡ write t₁ m auth → length t₂ ≡ length l
 front-long l t₁ t₂ auth i j k m a b vs e g = write-long t₂ t₁ m auth g ∙ two-long l t₁ i j k a b vs e
 
--- the authenticator has room behind the first four bytes
+-- the authenticator has room after the first four bytes
 pub front-room : (l t auth : List ℕ) (i j k a b : ℕ) (vs : List ℕ) → t ≡ write (set (set l i a) j b) k vs → 20 ≤ length l → length auth ≡ 16 → 4 + length auth ≤ length t
 front-room l t auth i j k a b vs e h g = omega (arith, two-long l t i j k a b vs e)

@@ -11,7 +11,7 @@ use Rattle.packet_auth.specs.Signing.{messageAuthenticator}
 use Rattle.packet_auth.proofs.Messages.{length-zeros}
 use Rattle.packet_write.specs.Rooms.{macRoom, withMac}
 
--- type 80 is 18 bytes, so its value begins behind place 20
+-- type 80 is 18 bytes, so its value begins after place 20
 pub room-low : (present : Bool) (n : ℕ) → present ≡ true → 20 + length (macRoom present) ≤ n → 20 ≤ n - 16
 unfolding macRoom
 room-low present n h g = let z = length-zeros in omega (arith, rw h at g)

@@ -97,7 +97,7 @@ module _ (secret base head body l : List ℕ) (present : Bool) (four : length he
       let one : t₁ ≡ write l 0 full = j ∙ ap (λ (x : List ℕ). withMac b base x e secret) i ∙ maced b (sym h) in
       k ∙ ap (λ (x : List ℕ). write x 4 (authenticator base x e secret)) one ∙ ap (write (write l 0 full) 4) auth-right ∙ signed
 
--- both signatures, one behind the other
+-- both signatures, one after the other
 pub then-signed : (t t₁ t₂ auth secret : List ℕ) (present : Bool) (n : ℕ) → t₁ ≡ withMac present auth t n secret → t₂ ≡ write t₁ 4 (authenticator auth t₁ n secret)
     → t₂ ≡ write (withMac present auth t n secret) 4 (authenticator auth (withMac present auth t n secret) n secret)
 then-signed t t₁ t₂ auth secret present n e g = g ∙ rw e

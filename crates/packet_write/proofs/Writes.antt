@@ -42,7 +42,7 @@ write-middle l i j x v w y h e =
     ∙ ap (λ (k : ℕ). write (write l i (x ++ w)) k y) m
     ∙ sym (write-append l i (x ++ w) y)
 
--- two stores and a write behind them
+-- two stores and a write after them
 pub write-two : (l t : List ℕ) (i a b : ℕ) (vs : List ℕ) → t ≡ write (set (set l i a) (i + 1) b) (i + 2) vs → t ≡ write l i (a ∷ b ∷ vs)
 write-two l t i a b vs e =
     let two : i + 1 + 1 ≡ i + 2 = omega arith in
@@ -51,7 +51,7 @@ write-two l t i a b vs e =
 pub two-long : (l t : List ℕ) (i j k a b : ℕ) (vs : List ℕ) → t ≡ write (set (set l i a) j b) k vs → length t ≡ length l
 two-long l t i j k a b vs e = write-long t (set (set l i a) j b) k vs e ∙ length-set (set l i a) j b ∙ length-set l i a
 
--- three writes, each behind the one before: the bytes, the end, and that each has room where all three have
+-- three writes, each after the one before: the bytes, the end, and that each has room where all three have
 pub room-one : (i n : ℕ) (x y z : List ℕ) → i + length (x ++ y ++ z) ≤ n → i + length x ≤ n
 room-one i n x y z r = omega (arith, simp length-append at r)
 

@@ -1,4 +1,4 @@
--- A packet and its signatures, request or reply alike (document 01, "The packet"): a head of four bytes, the authenticator, attributes, and type 80 behind them
+-- A packet and its signatures, request or reply alike (document 01, "The packet"): a head of four bytes, the authenticator, attributes, and type 80 after them
 -- where it is present. `base` is what both signatures are worked out over: zeros in a request, the request's authenticator in a reply.
 -- Assumes nothing.
 use mathlib.Core.Bool.{Bool, cond}

@@ -1,4 +1,4 @@
-// What every packet is written with, reply or request: the front before the attributes, an attribute, and room for type 80 behind them.
+// What every packet is written with, reply or request: the front before the attributes, an attribute, and room for type 80 after them.
 pub mod seal; // seal.rt: the signatures
 
 ghost use mathlib.Core.Path.{_≡_};
@@ -9,7 +9,7 @@ ghost use Rattle.octet_numbers.specs.Numbers.{beBytes};
 ghost use Rattle.octet_numbers.specs.Runs.{write};
 ghost use Rattle.packet_write.specs.Rooms.{macRoom};
 
-// An attribute: type, length, value. Returns the place behind it.
+// An attribute: type, length, value. Returns the place after it.
 pub fn put(t: &mut [u8], to: usize, kind: u8, size: u8, v: &[u8]) -> usize
     requires { ⌜ to + length (kind ∷ size ∷ now v) ≤ length (now t) ⌝ }
     ensures { λ r. ⌜ now (t .exit) ≡ write (now (t .entry)) to (kind ∷ size ∷ now (v .entry)) ⌝ }

@@ -43,7 +43,7 @@ module _ (m pre : List ℕ) (x n₁ n₂ a b : ℕ) (q₀ q₁ q₂ q₃ : State
       ∙ ap (λ (l : List ℕ). pre ++ l) (sym (append-assoc (take a m) (between a b m) (between b (length m) m)) ∙ three m a b h g))
       (third ((pre ++ take a m) ++ between a b m) h₂)
 
--- behind nothing: MD5
+-- after nothing: MD5
 pub md5-cut : (m : List ℕ) (a b : ℕ) (q₀ q₁ q₂ q₃ : State) (b₀ b₁ b₂ b₃ d : List ℕ) → q₀ ≡ initial
     → Updated 0 (take a m) q₀ b₀ q₁ b₁ → Updated a (between a b m) q₁ b₁ q₂ b₂ → Updated b (between b (length m) m) q₂ b₂ q₃ b₃
     → ((l : List ℕ) → Held (length m) l q₃ b₃ → d ≡ md5 l) → a ≤ b → b ≤ length m → d ≡ md5 m
@@ -52,7 +52,7 @@ md5-cut m a b q₀ q₁ q₂ q₃ b₀ b₁ b₂ b₃ d i first second third las
     (held-as (0 + length m) (length m) m m q₃ b₃ (zero-add (length m)) refl
     (held-cut m [] 0 a b a b q₀ q₁ q₂ q₃ b₀ b₁ b₂ b₃ first second third (omega arith) (omega arith) h g (rw i (held-none b₀))))
 
--- behind the key's block: HMAC
+-- after the key's block: HMAC
 pub hmac-cut : (k m : List ℕ) (a b : ℕ) (q₀ q₁ q₂ q₃ : State) (b₀ b₁ b₂ b₃ d : List ℕ) → ((l : List ℕ) → Held 64 (innerPad k) q₀ l)
     → Updated 64 (take a m) q₀ b₀ q₁ b₁ → Updated (64 + a) (between a b m) q₁ b₁ q₂ b₂ → Updated (64 + b) (between b (length m) m) q₂ b₂ q₃ b₃
     → ((l : List ℕ) → Held (64 + length m) (innerPad k ++ l) q₃ b₃ → d ≡ hmac k l) → a ≤ b → b ≤ length m → d ≡ hmac k m

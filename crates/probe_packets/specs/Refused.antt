@@ -11,7 +11,7 @@ use Rattle.probe.specs.Probe.{digestRoom}
 abbrev pub authOk : ℕ → List ℕ → List ℕ → List ℕ → Bool
 authOk n p auth out = digestRoom out && (digestRoom auth && (leb 20 n && leb n (length p)))
 
--- a Message-Authenticator: its value at place at, behind the packet's head and within Length
+-- a Message-Authenticator: its value at place at, after the packet's head and within Length
 abbrev pub macOk : ℕ → ℕ → List ℕ → List ℕ → List ℕ → Bool
 macOk n at p auth out = digestRoom out && (digestRoom auth && (leb 20 at && (leb (at + 16) n && leb n (length p))))
 

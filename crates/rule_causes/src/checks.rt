@@ -4,6 +4,7 @@ ghost use Rattle.octet_numbers.specs.Numbers.{beBytes};
 ghost use Rattle.rule_causes.specs.Later.{differsAt, missingBy};
 use attr_lookup::has;
 use attr_lookup::value_of;
+use attr_types::NAS_IP_ADDRESS;
 
 // 403: the first attribute of this type has another value than our own.
 pub fn other_value(
@@ -34,7 +35,7 @@ pub fn other_address(
 {
     let mut own = [0u8; 4];
     octet_numbers::put_be32(&mut own, 0, address);
-    other_value(s, count, ends, sizes, 4, &own)
+    other_value(s, count, ends, sizes, NAS_IP_ADDRESS, &own)
 }
 
 // 402: none that names a session, or a CoA-Request with none that changes one.

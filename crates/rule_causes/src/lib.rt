@@ -4,6 +4,8 @@ ghost use mathlib.Core.Bool.{false};
 ghost use Rattle.attr_survey.specs.Survey.{Flagged, Kept};
 ghost use Rattle.rule_causes.specs.Causes.{errorCause, applies, causeOf};
 ghost use Rattle.rule_causes.specs.Later.{laterOf};
+use attr_types::FILTER_ID;
+use attr_types::NAS_IDENTIFIER;
 use checks::missing;
 use checks::other_address;
 use checks::other_value;
@@ -72,13 +74,13 @@ fn later_cause(
     if other_address(s, count, ends, sizes, address) {
         return Cause::IdentificationMismatch;
     }
-    if other_value(s, count, ends, sizes, 32, name) {
+    if other_value(s, count, ends, sizes, NAS_IDENTIFIER, name) {
         return Cause::IdentificationMismatch;
     }
     if missing(code, f) {
         return Cause::MissingAttribute;
     }
-    if 34 < sizes[11] {
+    if 34 < sizes[FILTER_ID as usize] {
         return Cause::ResourcesUnavailable;
     }
     Cause::NoCause

@@ -1,20 +1,19 @@
 -- The stamp from what a pass kept: type 55 stands once exactly where its count is 1, and its value starts 4 bytes before its end.
 -- Assumes nothing.
 use mathlib.Core.Path.{_≡_, refl, sym, ap, _∙_}
-use mathlib.Core.Bool.{Bool, true}
+use mathlib.Core.Bool.{true}
 use mathlib.Core.List.{List}
-use Prim.Native.Nat.{ℕ, zero, suc, _+_, _-_, _≤_, _<_}
+use Prim.Native.Nat.{ℕ, _+_, _-_, _≤_, _<_}
 use native.Mathlib.Omega.{arith}
 use lib.ListN.{length, getD}
 use lib.Dec.{eqb, lit<}
 use borrow.Author.Tests.{eq-eqb, ne-eqb}
 use Rattle.octet_numbers.specs.Numbers.{be}
-use Rattle.attr_walk.specs.declared.Attribute.{Attribute}
 use Rattle.attr_walk.specs.declared.Search.{Search}
 use Rattle.attr_walk.specs.declared.Search.the-variants.{At, Missing}
 use Rattle.attr_walk.specs.Attributes.{attributes, firstOf, countOf, kindIs}
-use Rattle.attr_walk.proofs.Stands.{first-placed}
 use Rattle.attr_survey.specs.Survey.{Kept, upToTwo, endOf, sizeOf}
+use Rattle.attr_survey.proofs.UpToTwo.{two-one, size-low, end-inside}
 use Rattle.rule_stamp.specs.declared.Stamp.the-variants.{Usable, Unusable}
 use Rattle.rule_stamp.specs.Stamp.{stampIn, stampOf}
 
@@ -24,22 +23,9 @@ of-six : (s : List ℕ) (x : Search) → sizeOf x ≡ 6 → Usable (be (endOf x 
 of-six s (At a) h = let e : a .at + a .size - 4 ≡ a .at + 2 = omega arith in rw (eq-eqb _ _ h) (ap (λ (n : ℕ). Usable (be n 4 s)) e)
 of-six s Missing h = absurd (omega arith)
 
-size-low : (x : Search) → sizeOf x ≤ endOf x
-size-low (At a) = omega arith
-size-low Missing = omega arith
-
 of-other : (s : List ℕ) (x : Search) → (sizeOf x ≡ 6 → ⊥) → Unusable ≡ stampIn s x
 of-other s (At a) h = rw (ne-eqb _ _ h)
 of-other s Missing h = refl
-
-inside : (p : Attribute → Bool) (s : List ℕ) (x : Search) → x ≡ firstOf p (attributes s) → endOf x ≤ length s
-inside p s (At a) q = let g = first-placed p s (At a) a q refl in g .inside
-inside p s Missing q = omega arith
-
-one : (n : ℕ) → upToTwo n ≡ 1 → n ≡ 1
-one zero h = absurd (omega arith)
-one (suc zero) h = refl
-one (suc (suc n)) h = absurd (omega arith)
 
 -- ---- the answers of the code
 
@@ -65,7 +51,7 @@ module _ (s count ends sizes : List ℕ) (i : Kept s count ends sizes) where
       pub stamp-room : 4 ≤ m → end - m + 4 ≤ length s
       stamp-room four =
           let g = stamp-low in
-          let h : end ≤ length s = rw where-ends (inside (kindIs 55) s stamped refl) in
+          let h : end ≤ length s = rw where-ends (end-inside (kindIs 55) s stamped refl) in
           omega arith
 
   pub stamp-count : (getD count 55 0 ≡ 1 → ⊥) → Unusable ≡ stampOf s
@@ -75,7 +61,7 @@ module _ (s count ends sizes : List ℕ) (i : Kept s count ends sizes) where
 
   module _ (h : getD count 55 0 ≡ 1) where
     once : eqb (countOf (kindIs 55) (attributes s)) 1 ≡ true
-    once = eq-eqb _ _ (one (countOf (kindIs 55) (attributes s)) (sym (i .types 55 (lit< tt) not-33 .number) ∙ h))
+    once = eq-eqb _ _ (two-one (countOf (kindIs 55) (attributes s)) (sym (i .types 55 (lit< tt) not-33 .number) ∙ h))
 
     pub stamp-size : (getD sizes 55 0 ≡ 6 → ⊥) → Unusable ≡ stampOf s
     unfolding stampOf

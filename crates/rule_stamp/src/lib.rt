@@ -2,6 +2,7 @@
 ghost use mathlib.Core.Path.{_≡_};
 ghost use Rattle.attr_survey.specs.Survey.{Kept};
 ghost use Rattle.rule_stamp.specs.Stamp.{stampOf, stale, skewOf};
+use attr_types::EVENT_TIMESTAMP;
 
 pub enum Stamp {
     Usable(u32),
@@ -13,9 +14,9 @@ pub fn stamp_of(s: &[u8], count: &[u8; 256], ends: &[u16; 256], sizes: &[u8; 256
     requires { ⌜ Kept (now s) (now count) (now ends) (now sizes) ⌝ }
     ensures { λ r. ⌜ r ≡ stampOf (now (s .entry)) ⌝ }
 {
-    if count[55] == 1 {
-        if sizes[55] == 6 {
-            let end = attr_lookup::end_of(ends, 55);
+    if count[EVENT_TIMESTAMP as usize] == 1 {
+        if sizes[EVENT_TIMESTAMP as usize] == 6 {
+            let end = attr_lookup::end_of(ends, EVENT_TIMESTAMP);
             return Stamp::Usable(octet_numbers::be32(s, end - 4));
         }
         return Stamp::Unusable;

@@ -38,7 +38,7 @@ going j = record { job = j; ending = Going }
 abbrev pub done : D.Answer → M.Moved
 done a = record { job = freeJob; ending = Done a }
 
--- Hash: block k, from the words as held, the kept Length and the store as it stands; behind the last block comes Check
+-- Hash: block k, from the words as held, the kept Length and the store as it stands; after the last block comes Check
 unfoldable pub hashJob : List ℕ → B.Job → ℕ → List ℕ → B.Job
 hashJob secret j k q =
     record {

@@ -27,7 +27,7 @@ fn free_all(
     *marks = [[0u8; 64]; 4];
 }
 
-// s, and zeros behind it.
+// s, and zeros after it.
 fn keep(room: &mut [u8], s: &[u8])
     requires { ⌜ length (now s) ≤ length (now room) ⌝ }
     ensures { λ _. ⌜ now (room .exit) ≡ write (replicate (length (now (room .entry))) 0) 0 (now (s .entry)) ⌝ }

@@ -12,6 +12,7 @@ ghost use Rattle.packet_form.specs.Packet.{codeOf, areaOf};
 ghost use Rattle.packet_form.specs.Discards.{formOf, Sized};
 ghost use Rattle.sched_reread.specs.Reread.{holds, oddMac};
 ghost use Rattle.sched_reread.specs.Again.{Shown};
+use attr_types::MESSAGE_AUTHENTICATOR;
 
 // The store no longer shows the request, or shows it with this stamp.
 pub enum Again {
@@ -33,8 +34,8 @@ pub fn holds(n: usize, q: &[u8]) -> bool
 fn plain_mac(count: &[u8; 256], sizes: &[u8; 256]) -> bool
     ensures { λ r. ⌜ r ≡ not (seenAt (now (count .entry)) 80 && not (eqb (getD (now (sizes .entry)) 80 0) 18)) ⌝ }
 {
-    if attr_lookup::has(count, 80) {
-        return sizes[80] == 18;
+    if attr_lookup::has(count, MESSAGE_AUTHENTICATOR) {
+        return sizes[MESSAGE_AUTHENTICATOR as usize] == 18;
     }
     true
 }

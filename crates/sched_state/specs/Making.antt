@@ -6,7 +6,7 @@ use Rattle.nas_settings.specs.Settings.{Settings}
 use Rattle.sched_job.specs.Job.{freeJob}
 use Rattle.sched_state.specs.declared.Scheduler as D
 
--- four free jobs; secret and name with zeros behind them
+-- four free jobs; secret and name with zeros after them
 unfoldable pub madeOf : Settings → D.Scheduler
 madeOf g =
     record {

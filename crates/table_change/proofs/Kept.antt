@@ -11,7 +11,7 @@ use lib.ListN.{length, getD, take, length-take}
 use Rattle.octet_numbers.specs.Numbers.{beBytes}
 use Rattle.octet_numbers.specs.Runs.{part, write}
 use Rattle.octet_numbers.proofs.Numbers.{length-beBytes}
-use Rattle.octet_numbers.proofs.Part.{byte-part, part-before, part-behind}
+use Rattle.octet_numbers.proofs.Part.{byte-part, part-before, part-after}
 use Rattle.table_slots.specs.Slot.{live, within, text}
 use Rattle.table_slots.proofs.Live.{within-is}
 use Rattle.table_slots.proofs.Kept.{live-by, live-user, live-id, live-station, live-filter}
@@ -44,14 +44,14 @@ module _ (m n i : ℕ) (s : List ℕ) where
   unfolding setNumber
   part-number Keep o = refl
   part-number (Set v) o =
-      ⊎-elim (λ h. part-before s i (beBytes 4 v) m n h) (λ h. part-behind s i (beBytes 4 v) m n (rw length-beBytes h)) o
+      ⊎-elim (λ h. part-before s i (beBytes 4 v) m n h) (λ h. part-after s i (beBytes 4 v) m n (rw length-beBytes h)) o
 
   pub part-text : (p : List ℕ) (x : Text) → ((m + n ≤ i) ⊎ (i + 33 ≤ m)) → part m n (setText p x i s) ≡ part m n s
   unfolding setText
   part-text p Same o = refl
   part-text p (Value at size) o =
       let v : List ℕ = textField 32 (part at size p) in
-      ⊎-elim (λ h. part-before s i v m n h) (λ h. part-behind s i v m n (rw length-textField h)) o
+      ⊎-elim (λ h. part-before s i v m n h) (λ h. part-after s i v m n (rw length-textField h)) o
 
 -- ---- a part beside all three
 

@@ -9,9 +9,9 @@ use native.Mathlib.Omega.{arith}
 use lib.ListN.{length, take}
 use Rattle.octet_numbers.specs.Numbers.{be, beBytes}
 use Rattle.octet_numbers.specs.Runs.{part, write}
-use Rattle.octet_numbers.proofs.Numbers.{length-beBytes, be-before, be-behind, be-written}
+use Rattle.octet_numbers.proofs.Numbers.{length-beBytes, be-before, be-after, be-written}
 use Rattle.table_slots.specs.Slot.{live, text, sessionTimeout, idleTimeout, filterId}
-use Rattle.table_slots.proofs.Kept.{text-behind}
+use Rattle.table_slots.proofs.Kept.{text-after}
 use Rattle.table_records.specs.Record.{textField}
 use Rattle.table_records.proofs.Texts.{field-written, text-there}
 use Rattle.table_change.specs.declared.Alteration.{Alteration}
@@ -34,7 +34,7 @@ module _ (s : List ℕ) (i at : ℕ) where
   unfolding setNumber
   be-number Keep o = refl
   be-number (Set v) o =
-      ⊎-elim (λ h. be-before 4 s i (beBytes 4 v) at h) (λ h. be-behind 4 s i (beBytes 4 v) at (rw length-beBytes h)) o
+      ⊎-elim (λ h. be-before 4 s i (beBytes 4 v) at h) (λ h. be-after 4 s i (beBytes 4 v) at (rw length-beBytes h)) o
 
   be-text : (p : List ℕ) (x : Text) → at + 4 ≤ i → be at 4 (setText p x i s) ≡ be at 4 s
   unfolding setText
@@ -53,7 +53,7 @@ unnamed x i s e = rw e
 text-number : (x : Number) (i a : ℕ) (s : List ℕ) → i + 4 ≤ a → text a (setNumber x i s) ≡ text a s
 unfolding setNumber
 text-number Keep i a s h = refl
-text-number (Set v) i a s h = text-behind s i (beBytes 4 v) a (rw length-beBytes h)
+text-number (Set v) i a s h = text-after s i (beBytes 4 v) a (rw length-beBytes h)
 
 module _ (p : List ℕ) (a : Alteration) (s : List ℕ) where
   timeout-is : sessionTimeout (altered p a s) ≡ sessionTimeout (setNumber (a .timeout) 10 s)

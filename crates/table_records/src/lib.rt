@@ -66,7 +66,7 @@ fn put_numbers(t: &mut [u8], at: usize, port: u32, address: u32, timeout: u32, i
     octet_numbers::put_be32(t, at + 14, idle);
 }
 
-// Writes the four texts and the zeros behind them, 174 bytes.
+// Writes the four texts and the zeros after them, 174 bytes.
 fn put_texts(t: &mut [u8], at: usize, user: &[u8], id: &[u8], station: &[u8], filter: &[u8])
     requires { ⌜ at + 174 ≤ length (now t) ⌝ }
     ensures { λ _. ⌜ now (t .exit) ≡ write (now (t .entry)) at (textField 63 (now (user .entry)) ++ textField 32 (now (id .entry)) ++ textField 32 (now (station .entry)) ++ textField 32 (now (filter .entry)) ++ replicate 11 0) ⌝ }

@@ -1,4 +1,4 @@
--- What a write elsewhere in a slot keeps: liveness goes by six bytes, a text by its length byte and the bytes behind it.
+-- What a write elsewhere in a slot keeps: liveness goes by six bytes, a text by its length byte and the bytes after it.
 -- Assumes nothing.
 use mathlib.Core.Path.{_≡_}
 use mathlib.Core.Bool.{Bool, true, _&&_}
@@ -9,8 +9,8 @@ use borrow.Author.Tests.{leb-true}
 use lib.ListN.{length, getD}
 use Rattle.octet_numbers.specs.Runs.{write}
 use Rattle.octet_numbers.proofs.Equality.{and-both}
-use Rattle.octet_numbers.proofs.Part.{part-behind}
-use Rattle.octet_numbers.proofs.Write.{byte-behind}
+use Rattle.octet_numbers.proofs.Part.{part-after}
+use Rattle.octet_numbers.proofs.Write.{byte-after}
 use Rattle.table_slots.specs.Slot.{within, live, text}
 
 -- ---- liveness
@@ -46,6 +46,6 @@ module _ (s : List ℕ) (h : live s ≡ true) where
 
 -- ---- texts
 
-pub text-behind : (s : List ℕ) (i : ℕ) (vs : List ℕ) (a : ℕ) → i + length vs ≤ a → text a (write s i vs) ≡ text a s
+pub text-after : (s : List ℕ) (i : ℕ) (vs : List ℕ) (a : ℕ) → i + length vs ≤ a → text a (write s i vs) ≡ text a s
 unfolding text
-text-behind s i vs a h = rw (byte-behind s i vs a h) (part-behind s i vs (a + 1) (getD s a 0) (omega arith))
+text-after s i vs a h = rw (byte-after s i vs a h) (part-after s i vs (a + 1) (getD s a 0) (omega arith))

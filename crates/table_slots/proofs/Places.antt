@@ -8,7 +8,7 @@ use native.Mathlib.Nat.{add-zero}
 use native.Mathlib.Omega.{arith}
 use lib.ListN.{length, length-take}
 use Rattle.octet_numbers.specs.Runs.{part, write}
-use Rattle.octet_numbers.proofs.Part.{length-part, part-behind, part-before, part-write}
+use Rattle.octet_numbers.proofs.Part.{length-part, part-after, part-before, part-write}
 use Rattle.octet_numbers.proofs.Write.{write-whole, write-apart}
 use Rattle.table_slots.specs.Slot.{slot}
 use Rattle.table_slots.proofs.Overwrite.{write-same}
@@ -27,7 +27,7 @@ unfolding slot
 slot-write-other t j k i vs n h =
     ⊎-elim
     (λ (l : j < k). part-before t (k * 192 + i) vs (j * 192) 192 (omega arith))
-    (λ (l : k ≤ j). part-behind t (k * 192 + i) vs (j * 192) 192 (omega arith))
+    (λ (l : k ≤ j). part-after t (k * 192 + i) vs (j * 192) 192 (omega arith))
     (lt-or-le j k)
 
 pub length-slot : (t : List ℕ) (k : ℕ) → (k + 1) * 192 ≤ length t → length (slot k t) ≡ 192

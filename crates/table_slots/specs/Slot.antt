@@ -1,4 +1,4 @@
--- The session table (document 01, "The session table"): slots of 192 bytes, one behind the other.
+-- The session table (document 01, "The session table"): slots of 192 bytes, one after the other.
 -- Assumes nothing.
 use mathlib.Core.Bool.{Bool, _&&_, cond}
 use mathlib.Core.List.{List}

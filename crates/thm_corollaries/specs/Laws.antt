@@ -44,7 +44,7 @@ pub record Laws : Type 0 where
   pub open-before : (p : List ℕ) (clock : ℕ) (w : World) (i : ℕ) → i < lowestFree (openAt (w .scheduler .jobs)) * 4096
       → getD (call (Open p clock) w .world .store) i 0 ≡ getD (w .store) i 0
   -- and none after the packet's Length bytes
-  pub open-behind : (p : List ℕ) (clock : ℕ) (w : World) (i : ℕ) → lowestFree (openAt (w .scheduler .jobs)) * 4096 + lengthOf p ≤ i
+  pub open-after : (p : List ℕ) (clock : ℕ) (w : World) (i : ℕ) → lowestFree (openAt (w .scheduler .jobs)) * 4096 + lengthOf p ≤ i
       → getD (call (Open p clock) w .world .store) i 0 ≡ getD (w .store) i 0
   -- of the steps only an ACK sends others back to slot 0: one that does not end in ACK leaves every other job
   pub step-others : (j : ℕ) (w : World) (b : List ℕ) → acks (call (Step j b) w .out .outcome) ≡ false

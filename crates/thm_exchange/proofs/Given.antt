@@ -1,4 +1,4 @@
--- A request reads back as given: its attributes are those given, each at its place, and behind them type 80 where it was to be added, whose value is the Message-Authenticator.
+-- A request reads back as given: its attributes are those given, each at its place, and after them type 80 where it was to be added, whose value is the Message-Authenticator.
 -- Assumes nothing.
 use mathlib.Core.Path.{_≡_, refl, sym, ap, _∙_}
 use mathlib.Core.Bool.{Bool, true, false, cond}
@@ -19,7 +19,7 @@ use Rattle.dac_write.specs.Writer.{Draft, badGiven, writeRefusal, requestLength
 use Rattle.dac_write.proofs.Refusals.{taken}
 use Rattle.thm_exchange.proofs.Requests.{request-is, length-is, plain-given, request-short}
 
--- type 80 of length 18, behind the attributes given
+-- type 80 of length 18, after the attributes given
 abbrev pub added : Draft → Attribute
 added d = record { kind = 80; at = length (d .given); size = 18 }
 

@@ -1,4 +1,4 @@
--- The output holds the request, with the bytes that were there behind it: they are behind its Length, and change nothing. Assumes nothing.
+-- The output holds the request, with the bytes that were there after it: they are after its Length, and change nothing. Assumes nothing.
 use mathlib.Core.Path.{_≡_, sym, ap, _∙_}
 use mathlib.Core.Bool.{true, false}
 use mathlib.Core.List.{List, _∷_}

@@ -1,4 +1,4 @@
--- Bytes behind Length change nothing: the rules look at the first Length bytes alone, so two packets that agree there meet the same of D1 to D5. Assumes nothing.
+-- Bytes after Length change nothing: the rules look at the first Length bytes alone, so two packets that agree there meet the same of D1 to D5. Assumes nothing.
 use mathlib.Core.Path.{_≡_, sym, ap, _∙_}
 use mathlib.Core.List.{List}
 use Prim.Native.Nat.{ℕ, _+_, _-_, _≤_}

@@ -10,7 +10,7 @@ use lib.Dec.{eqb}
 use lib.ListN.{length, getD, take}
 use lib.Seq.{length-take-le}
 use Rattle.octet_numbers.specs.Runs.{write}
-use Rattle.octet_numbers.proofs.Write.{byte-before, byte-behind}
+use Rattle.octet_numbers.proofs.Write.{byte-before, byte-after}
 use Rattle.packet_form.specs.Packet.{lengthOf}
 use Rattle.packet_form.specs.Discards.{formOf}
 use Rattle.sched_state.specs.Scheduler.{openAt, lowestFree}
@@ -27,13 +27,13 @@ module _ (p store : List ℕ) (x i : ℕ) where
   before-by true false h = refl
   before-by false d h = refl
 
-  behind-by : (f d : Bool) → eqb (formOf p) 0 ≡ d → x * 4096 + lengthOf p ≤ i
+  after-by : (f d : Bool) → eqb (formOf p) 0 ≡ d → x * 4096 + lengthOf p ≤ i
       → getD (cond f (cond d (write store (x * 4096) (take (lengthOf p) p)) store) store) i 0 ≡ getD store i 0
-  behind-by true true e h =
+  after-by true true e h =
       let long : length (take (lengthOf p) p) ≡ lengthOf p = length-take-le (lengthOf p) p (form-sized p (eqb-true (formOf p) 0 e) .given) in
-      byte-behind store (x * 4096) (take (lengthOf p) p) i (rw long h)
-  behind-by true false e h = refl
-  behind-by false d e h = refl
+      byte-after store (x * 4096) (take (lengthOf p) p) i (rw long h)
+  after-by true false e h = refl
+  after-by false d e h = refl
 
 module _ (p : List ℕ) (clock : ℕ) (w : World) (i : ℕ) where
   abbrev taken : ℕ
@@ -46,6 +46,6 @@ module _ (p : List ℕ) (clock : ℕ) (w : World) (i : ℕ) where
   unfolding call openStore
   open-before h = before-by p (w .store) taken i opens (eqb (formOf p) 0) h
 
-  pub open-behind : lowestFree (openAt (w .scheduler .jobs)) * 4096 + lengthOf p ≤ i → getD (call (Open p clock) w .world .store) i 0 ≡ getD (w .store) i 0
+  pub open-after : lowestFree (openAt (w .scheduler .jobs)) * 4096 + lengthOf p ≤ i → getD (call (Open p clock) w .world .store) i 0 ≡ getD (w .store) i 0
   unfolding call openStore
-  open-behind h = behind-by p (w .store) taken i opens (eqb (formOf p) 0) refl h
+  open-after h = after-by p (w .store) taken i opens (eqb (formOf p) 0) refl h

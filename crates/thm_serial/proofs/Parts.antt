@@ -13,7 +13,7 @@ use lib.ListN.{length, take, drop}
 use lib.Seq.{take-take, length-take-le}
 use Rattle.octet_numbers.specs.Runs.{part, write}
 use Rattle.octet_numbers.proofs.Write.{length-write}
-use Rattle.octet_numbers.proofs.Part.{length-part, part-before, part-behind, part-written}
+use Rattle.octet_numbers.proofs.Part.{length-part, part-before, part-after, part-written}
 use Rattle.packet_form.specs.Packet.{lengthOf}
 use Rattle.packet_form.specs.Discards.{formOf, Sized}
 use Rattle.sched_state.specs.Scheduler.{partOf}
@@ -49,4 +49,4 @@ module _ (p : List ℕ) (good : formOf p ≡ 0) (store : List ℕ) (j : ℕ) whe
     where
       go : (b : Bool) → ltb i j ≡ b → partOf i (write store (j * 4096) (take (lengthOf p) p)) ≡ partOf i store
       go true e = let l = ltb-true i j e in part-before store (j * 4096) (take (lengthOf p) p) (i * 4096) 4096 (omega arith)
-      go false e = let l = ltb-false i j e in part-behind store (j * 4096) (take (lengthOf p) p) (i * 4096) 4096 (rw kept (omega (arith, sized .high)))
+      go false e = let l = ltb-false i j e in part-after store (j * 4096) (take (lengthOf p) p) (i * 4096) 4096 (rw kept (omega (arith, sized .high)))

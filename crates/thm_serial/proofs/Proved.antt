@@ -16,7 +16,7 @@ use Rattle.sched_state.proofs.New.{made-jobs, made-settings, made-ours}
 use Rattle.thm_serial.specs.Serial.{Serial, notedAt}
 use Rattle.thm_serial.specs.Demand3.{quiet, stepsTaken, world, serially, New, Demand3}
 use Rattle.thm_serial.proofs.Potential.{potential-most, all-finished}
-use Rattle.thm_serial.proofs.Whole.{whole, run-behind, notes-open}
+use Rattle.thm_serial.proofs.Whole.{whole, run-after, notes-open}
 use Rattle.thm_serial.proofs.StepBound.{run-spent}
 
 module _ (s : D.Scheduler) (new : New s) (cs ds : List Call) (t store : List ℕ) where
@@ -34,7 +34,7 @@ module _ (s : D.Scheduler) (new : New s) (cs ds : List Call) (t store : List ℕ
       → notedAt (serially (cs ++ ds) s t store .serial .notes) j ≡ false
   none-noted q h j =
       let o = notes-open (run (cs ++ ds) (world s t store)) (serially (cs ++ ds) s t store) (whole s new (cs ++ ds) t store) in
-      ap (λ (f : ℕ → Bool). f j) (sym o) ∙ rw (run-behind cs ds (world s t store)) (finishes q h j)
+      ap (λ (f : ℕ → Bool). f j) (sym o) ∙ rw (run-after cs ds (world s t store)) (finishes q h j)
 
 made : (g : Settings) → makeRefusal g ≡ 0 → New (madeOf g) × (settingsOf (madeOf g) ≡ g)
 made g h = (record { ours = made-ours g h; free = made-jobs g }, made-settings g h)

@@ -35,10 +35,10 @@ runs (c ∷ cs) n w ns z h =
     rw (← (a .out-is), a .serial-is) record { outs-are = ap (_∷_ (call c w .out)) (r .outs-are); notes = r .notes; serial-is = r .serial-is; tied = r .tied }
 
 -- a list of calls after another
-pub run-behind : (cs ds : List Call) (w : World) → run (cs ++ ds) w .world ≡ run ds (run cs w .world) .world
+pub run-after : (cs ds : List Call) (w : World) → run (cs ++ ds) w .world ≡ run ds (run cs w .world) .world
 unfolding run
-run-behind [] ds w = refl
-run-behind (c ∷ cs) ds w = run-behind cs ds (call c w .world)
+run-after [] ds w = refl
+run-after (c ∷ cs) ds w = run-after cs ds (call c w .world)
 
 -- ---- a newly made scheduler
 

@@ -1,4 +1,4 @@
--- `das_effects::criteria` meets its contract: five types, one behind the other.
+-- `das_effects::criteria` meets its contract: five types, one after the other.
 -- Assumes nothing.
 use borrow.Author.Needs.{needs}
 use Rattle.das_effects.proofs.Counted.{with-all}

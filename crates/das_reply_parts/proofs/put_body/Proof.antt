@@ -1,4 +1,4 @@
--- `das_reply_parts::put_body` meets its contract: three writes, each behind the one before.
+-- `das_reply_parts::put_body` meets its contract: three writes, each after the one before.
 -- Assumes nothing.
 use Rattle.packet_write.proofs.Writes.{room-one, room-two, room-three, three-end, write-three}
 use borrow.Author.Needs.{needs}

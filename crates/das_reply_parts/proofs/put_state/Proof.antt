@@ -21,6 +21,7 @@ put-state-spec =
     (tie.spec
     (λ c κs. search needs)
     (λ c. search needs)
+    (λ c. search needs)
     (λ c κs. search needs)
     put-attribute-requires
     (λ c. search needs)

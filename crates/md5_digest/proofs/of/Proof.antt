@@ -1,4 +1,4 @@
--- `md5_digest::of` meets its contract: one piece behind none.
+-- `md5_digest::of` meets its contract: one piece after none.
 -- Assumes nothing.
 use borrow.Author.Needs.{needs}
 use Rattle.md5_digest.proofs.Pieces.{held-whole}

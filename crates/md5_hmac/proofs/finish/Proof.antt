@@ -1,4 +1,4 @@
--- `md5_hmac::finish` meets its contract: the inner digest is hashed behind the outer pad.
+-- `md5_hmac::finish` meets its contract: the inner digest is hashed after the outer pad.
 -- Assumes nothing.
 use borrow.Author.Needs.{needs}
 use denote.Ref.{now}

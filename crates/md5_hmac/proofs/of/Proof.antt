@@ -1,4 +1,4 @@
--- `md5_hmac::of` meets its contract: one piece behind the inner pad.
+-- `md5_hmac::of` meets its contract: one piece after the inner pad.
 -- Assumes nothing.
 use denote.Ref.{now}
 use borrow.Author.Needs.{needs}

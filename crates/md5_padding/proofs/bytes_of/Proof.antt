@@ -1,4 +1,4 @@
--- `md5_padding::bytes_of` meets its contract: four words, one behind the other, fill the sixteen bytes.
+-- `md5_padding::bytes_of` meets its contract: four words, one after the other, fill the sixteen bytes.
 -- Assumes nothing.
 use borrow.Author.Needs.{needs}
 use Rattle.md5_padding.proofs.Written.{words-law}

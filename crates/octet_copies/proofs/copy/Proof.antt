@@ -1,4 +1,4 @@
--- `octet_copies::copy` meets its contract: after each eight bytes the first j are written, and the rest goes behind them.
+-- `octet_copies::copy` meets its contract: after each eight bytes the first j are written, and the rest goes after them.
 -- Assumes nothing.
 use Prim.Native.Nat.{_≤_, _-_}
 use mathlib.Core.Path.{_≡_}

@@ -1,4 +1,4 @@
--- `packet_blocks::hash_block` meets its contract: behind the first block the message is the packet, up to Length.
+-- `packet_blocks::hash_block` meets its contract: after the first block the message is the packet, up to Length.
 -- Assumes nothing.
 use borrow.Author.Needs.{needs}
 use Rattle.packet_blocks.proofs.Built.{hashed-there, hashed-built}

@@ -25,11 +25,12 @@ bad-mac-spec =
     tie.close
     (tie.spec
     (λ c. search needs)
+    (λ c. search needs)
     returns
     returns-2
     (λ c. search needs)
-    returns-3
     (λ c. search needs)
+    returns-3
     (λ c κs. search needs)
     (λ c. search needs)
     mac-right-requires

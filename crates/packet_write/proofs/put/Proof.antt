@@ -1,4 +1,4 @@
--- `packet_write::put` meets its contract: two stores, and the value behind them.
+-- `packet_write::put` meets its contract: two stores, and the value after them.
 -- Assumes nothing.
 use native.Mathlib.Omega.{arith}
 use lib.ListN.{length-set}

@@ -1,4 +1,4 @@
--- `packet_write::put_front` meets its contract: two stores and two writes, one behind the other.
+-- `packet_write::put_front` meets its contract: two stores and two writes, one after the other.
 -- Assumes nothing.
 use native.Mathlib.Omega.{arith}
 use lib.ListN.{length-set}

@@ -1,4 +1,4 @@
--- `probe::hmac_cut` meets its contract: three pieces behind the key's block.
+-- `probe::hmac_cut` meets its contract: three pieces after the key's block.
 -- Assumes nothing.
 use lib.ListN.{length-take}
 use denote.Ref.{now}

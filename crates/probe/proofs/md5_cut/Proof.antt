@@ -1,4 +1,4 @@
--- `probe::md5_cut` meets its contract: three pieces behind nothing.
+-- `probe::md5_cut` meets its contract: three pieces after nothing.
 -- Assumes nothing.
 use native.Mathlib.Omega.{arith}
 use borrow.Author.Needs.{needs}

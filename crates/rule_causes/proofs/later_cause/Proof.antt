@@ -16,5 +16,6 @@ later-cause-spec =
     (λ c κs. search needs)
     (λ c. search (needs, later-402))
     (λ c. search needs)
+    (λ c. search needs)
     (λ c. search (needs, later-506))
     (λ c. search (needs, later-none)))

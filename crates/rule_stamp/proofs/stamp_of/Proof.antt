@@ -26,6 +26,8 @@ stamp-of-spec =
     (tie.spec
     (λ c. search needs)
     (λ c. search needs)
+    (λ c. search needs)
+    (λ c. search needs)
     (λ c κs. search needs)
     sub-be32
     be32-requires

@@ -12,4 +12,4 @@ returns-2 : tie.Need-returns-2
 returns-2 c = search (needs, mac-missing)
 
 pub plain-mac-spec : {M : Type 1} → statement M
-plain-mac-spec = tie.close (tie.spec (λ c κs. search needs) (λ c. search needs) returns returns-2)
+plain-mac-spec = tie.close (tie.spec (λ c κs. search needs) (λ c. search needs) (λ c. search needs) returns returns-2)

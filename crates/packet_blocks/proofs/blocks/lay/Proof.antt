@@ -1,7 +1,7 @@
--- `packet_blocks::blocks::lay` meets its contract: what of the part the block sees is copied, whether it begins before the block, in it or behind it.
+-- `packet_blocks::blocks::lay` meets its contract: what of the part the block sees is copied, whether it begins before the block, in it or after it.
 -- Assumes nothing.
 use borrow.Author.Needs.{needs}
-use Rattle.packet_blocks.proofs.Windows.{part-fits, laid-before, laid-in, laid-behind}
+use Rattle.packet_blocks.proofs.Windows.{part-fits, laid-before, laid-in, laid-after}
 use Rattle.packet_blocks.proofs.blocks.lay.Statement.{statement}
 use Rattle.packet_blocks.proofs.blocks.lay.Tie as tie
 
@@ -12,7 +12,7 @@ returns : tie.Need-returns
 returns c = search (needs, laid-before)
 
 returns-2 : tie.Need-returns-2
-returns-2 c = search (needs, laid-behind)
+returns-2 c = search (needs, laid-after)
 
 copy-requires-2 : tie.Need-copy-requires-2
 copy-requires-2 c κs = search (needs, part-fits)

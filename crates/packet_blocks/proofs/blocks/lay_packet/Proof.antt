@@ -1,4 +1,4 @@
--- `packet_blocks::blocks::lay_packet` meets its contract: the three parts stand behind each other.
+-- `packet_blocks::blocks::lay_packet` meets its contract: the three parts stand after each other.
 -- Assumes nothing.
 use borrow.Author.Needs.{needs}
 use native.Mathlib.Omega.{arith}

@@ -1,4 +1,4 @@
--- `packet_blocks::blocks::request_block` meets its contract: the packet, the secret and the padding stand behind each other, and fill the block.
+-- `packet_blocks::blocks::request_block` meets its contract: the packet, the secret and the padding stand after each other, and fill the block.
 -- Assumes nothing.
 use borrow.Author.Needs.{needs}
 use mathlib.Core.Path.{refl}

@@ -3,7 +3,7 @@ ghost use mathlib.Core.Path.{_≡_};
 ghost use mathlib.Core.Bool.{_||_};
 ghost use Prim.Native.Nat.{_<_};
 ghost use Rattle.attr_types.specs.Classes.{says};
-ghost use Rattle.attr_survey.specs.Turns.{unmarked, marked, cut};
+ghost use Rattle.attr_survey.specs.Turns.{noFlags, joinedBy, untiled};
 use crate::Flags;
 use attr_types::lacks;
 use attr_types::misfits;
@@ -28,8 +28,8 @@ fn flagged(a: bool, weight: u8, class: u8) -> bool
 }
 
 // The flags before the first attribute.
-pub fn unmarked() -> Flags
-    ensures { λ r. ⌜ r ≡ unmarked ⌝ }
+pub fn no_flags() -> Flags
+    ensures { λ r. ⌜ r ≡ noFlags ⌝ }
 {
     Flags {
         tiled: true,
@@ -43,8 +43,8 @@ pub fn unmarked() -> Flags
 }
 
 // The flags after one more attribute of this class and length; again says that its type was there before.
-pub fn marked(f: Flags, code: u8, class: u8, size: u8, again: bool) -> Flags
-    ensures { λ r. ⌜ r ≡ marked code class size again f ⌝ }
+pub fn joined(f: Flags, code: u8, class: u8, size: u8, again: bool) -> Flags
+    ensures { λ r. ⌜ r ≡ joinedBy code class size again f ⌝ }
 {
     Flags {
         tiled: f.tiled,
@@ -58,8 +58,8 @@ pub fn marked(f: Flags, code: u8, class: u8, size: u8, again: bool) -> Flags
 }
 
 // The flags where no attribute stands before the area's end.
-pub fn cut(f: Flags) -> Flags
-    ensures { λ r. ⌜ r ≡ cut f ⌝ }
+pub fn untiled(f: Flags) -> Flags
+    ensures { λ r. ⌜ r ≡ untiled f ⌝ }
 {
     Flags {
         tiled: false,
