@@ -1,5 +1,5 @@
--- The two loops that compare: one leaves at the first difference, the other gathers those of all bytes. Behind each turn the bytes not yet looked at
--- decide the first; the bytes looked at are equal exactly where the second has gathered nothing. Assumes nothing.
+-- The two loops that compare byte by byte: one leaves at the first difference, the other gathers those of all bytes. After each turn the bytes not yet
+-- looked at decide the first; the bytes looked at are equal exactly where the second has gathered nothing. Assumes nothing.
 use mathlib.Core.Path.{_≡_, refl, sym, ap, _∙_}
 use mathlib.Core.Bool.{Bool, true, false, _&&_, and-true, and-assoc}
 use mathlib.Core.List.{List, [], _∷_, _++_}

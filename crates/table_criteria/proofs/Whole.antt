@@ -10,18 +10,17 @@ use mir.Syntax.{w8}
 use mir.Val.{Fits}
 use lib.Dec.{eqb, leb}
 use lib.ListN.{length, getD, take, drop, length-take, length-drop}
-use lib.Seq.{ext-getD}
 use Rattle.octet_numbers.specs.Numbers.{be}
 use Rattle.octet_numbers.specs.Runs.{part, equalBytes}
 use Rattle.octet_numbers.proofs.Equality.{and-both, equal-false, equal-length, equal-refl}
 use Rattle.octet_numbers.proofs.Numbers.{be-same}
 use Rattle.octet_numbers.proofs.Part.{length-part, byte-part, part-of}
+use Rattle.octet_runs.proofs.Words.{same-part}
 use Rattle.table_slots.specs.Slot.{text}
 use Rattle.table_criteria.specs.declared.Criterion.{Criterion}
 use Rattle.table_criteria.specs.declared.Field.{Field}
 use Rattle.table_criteria.specs.declared.Field.the-variants.{UserName, NasPort, FramedAddress, CallingStation, SessionId}
 use Rattle.table_criteria.specs.Matching.{fieldBytes, inside, meets, place}
-use Rattle.table_criteria.proofs.Words.{digits}
 
 -- ---- where the value lies
 
@@ -74,15 +73,8 @@ module _ (p : List ℕ) (at size : ℕ) (s : List ℕ) (i : ℕ) (fits : at + si
       sym (equal-length (part at size p) (part i 4 s) (λ q. n (sym la ∙ q ∙ lb)))
 
 module _ (p : List ℕ) (at : ℕ) (s : List ℕ) (i : ℕ) (fits : at + 4 ≤ length p) (room : i + 4 ≤ length s) (fp : (k : ℕ) → Fits w8 (getD p k 0)) (fs : (k : ℕ) → Fits w8 (getD s k 0)) where
-  same-four : be at 4 p ≡ be i 4 s → part at 4 p ≡ part i 4 s
-  same-four e =
-      let la : length (part at 4 p) ≡ 4 = length-part at 4 p fits in
-      let lb : length (part i 4 s) ≡ 4 = length-part i 4 s room in
-      ext-getD 0 (part at 4 p) (part i 4 s) (la ∙ sym lb)
-      (λ k g. let l : k < 4 = rw la at g in byte-part at 4 p k l ∙ digits p s at i 4 fp fs e k l ∙ sym (byte-part i 4 s k l))
-
   number-by : (b : Bool) → eqb (be at 4 p) (be i 4 s) ≡ b → b ≡ equalBytes (part at 4 p) (part i 4 s)
-  number-by true e = sym (rw (same-four (eqb-true _ _ e)) (equal-refl (part i 4 s)))
+  number-by true e = sym (rw (same-part p s at i 4 fits room fp fs (eqb-true _ _ e)) (equal-refl (part i 4 s)))
   number-by false e =
       sym (equal-false (part at 4 p) (part i 4 s)
       (λ q. eqb-false _ _ e (be-same 4 p s at i (λ k l. sym (byte-part at 4 p k l) ∙ ap (λ (u : List ℕ). getD u k 0) q ∙ byte-part i 4 s k l))))

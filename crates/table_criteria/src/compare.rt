@@ -18,23 +18,6 @@ pub fn number_of(c: super::Criteria) -> usize
     n
 }
 
-// Whether a and b are the same bytes, four at a time. It returns at the first difference.
-fn alike(a: &[u8], b: &[u8]) -> bool
-    ensures { λ r. ⌜ r ≡ equalBytes (now (a .entry)) (now (b .entry)) ⌝ }
-{
-    if a.len() != b.len() {
-        return false;
-    }
-    let mut i = 0;
-    while 4 <= a.len() - i {
-        if octet_numbers::be32(a, i) != octet_numbers::be32(b, i) {
-            return false;
-        }
-        i += 4;
-    }
-    octet_runs::equal(&a[i..], &b[i..])
-}
-
 // The bytes of a field.
 fn field_of(s: &[u8], f: super::Field) -> &[u8]
     ensures { λ r. ⌜ now r ≡ fieldBytes f (now (s .entry)) ⌝ }
@@ -55,7 +38,7 @@ pub fn meets_one(p: &[u8], s: &[u8], c: super::Criterion) -> bool
     let at = c.at;
     let size = c.size;
     let field = c.field;
-    alike(octet_runs::slice(p, at, size), field_of(s, field))
+    octet_runs::equal(octet_runs::slice(p, at, size), field_of(s, field))
 }
 
 // Whether the value asked for lies in the request p as a whole, and is no longer than a text can be.
@@ -110,7 +93,7 @@ fn text_is(p: &[u8], at: usize, size: usize, s: &[u8], i: usize) -> bool
     if table_slots::byte(s, i) != size {
         return false;
     }
-    alike(&p[at..at + size], &s[i + 1..i + 1 + size])
+    octet_runs::equal(&p[at..at + size], &s[i + 1..i + 1 + size])
 }
 
 // Whether size bytes of p from place at on are the four bytes of s from place i on.
