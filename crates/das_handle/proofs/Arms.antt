@@ -16,7 +16,7 @@ use Rattle.attr_survey.specs.Survey.{Surveyed}
 use Rattle.table_criteria.specs.declared.Criterion.{Criterion}
 use Rattle.table_slots.specs.Slot.{slotCount}
 use Rattle.table_criteria.specs.Matching.{matchesAt}
-use Rattle.table_criteria.specs.Marks.{marksAfter}
+use Rattle.table_slots.specs.Marks.{marksAfter}
 use Rattle.table_change.specs.Change.{countMarked}
 use Rattle.rule_causes.specs.declared.Cause as C
 use Rattle.rule_causes.specs.declared.Cause.the-variants.{SessionNotFound, NoCause}

@@ -11,7 +11,7 @@ use Rattle.nas_settings.specs.Settings.{Settings, settings}
 use lib.ListN.{length}
 use Rattle.table_slots.specs.Slot.{slotCount}
 use Rattle.table_slots.proofs.Count.{counted}
-use Rattle.table_criteria.proofs.Marked.{count-most}
+use Rattle.table_slots.proofs.Marked.{count-most}
 use Rattle.table_change.specs.Change.{marked, countMarked}
 use Rattle.rule_stamp.specs.Stamp.{stampOf}
 use Rattle.rule_causes.specs.declared.Cause as C

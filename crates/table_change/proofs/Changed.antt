@@ -13,8 +13,8 @@ use Rattle.octet_numbers.specs.Runs.{write}
 use Rattle.table_slots.specs.Slot.{slotCount, slot, live}
 use Rattle.table_slots.proofs.Count.{counted}
 use Rattle.table_slots.proofs.Places.{length-slot, slot-short, slot-written, slots-commute}
-use Rattle.table_criteria.specs.Marks.{marksAfter, countTo}
-use Rattle.table_criteria.proofs.Marked.{mark-at, count-same}
+use Rattle.table_slots.specs.Marks.{marksAfter, countTo}
+use Rattle.table_slots.proofs.Marked.{mark-at, count-same}
 use Rattle.table_change.specs.declared.Change.{Change}
 use Rattle.table_change.specs.Change.{changed, changeAt, changeWhere, marked, changeMarked, countMarked}
 use Rattle.table_change.proofs.Slots.{length-changed, changed-short, change-other, length-changeWhere, other-by, slot-later}

@@ -11,7 +11,7 @@ use lib.Dec.{eqb}
 use lib.ListN.{length, getD}
 use Rattle.table_slots.specs.Slot.{slotCount, slot, live}
 use Rattle.table_slots.proofs.Count.{Counted}
-use Rattle.table_criteria.specs.Marks.{countTo}
+use Rattle.table_slots.specs.Marks.{countTo}
 use Rattle.table_change.specs.declared.Change.{Change}
 use Rattle.table_change.specs.Change.{changeAt, changeWhere, marked, changeMarked, countMarked}
 use Rattle.table_change.proofs.Slots.{length-changeWhere, slot-later}

@@ -8,7 +8,7 @@ use lib.ListN.{getD, replicate}
 use Rattle.octet_numbers.specs.Numbers.{beBytes}
 use Rattle.octet_numbers.specs.Runs.{part, write}
 use Rattle.table_slots.specs.Slot.{live, slot}
-use Rattle.table_criteria.specs.Marks.{countTo}
+use Rattle.table_slots.specs.Marks.{countTo}
 use Rattle.table_records.specs.Record.{textField}
 use Rattle.table_change.specs.declared.Change.{Change}
 use Rattle.table_change.specs.declared.Change.the-variants.{End, Alter}

@@ -1,4 +1,3 @@
 pub mod Fields
 pub mod Walk
 pub mod Whole
-pub mod Marked

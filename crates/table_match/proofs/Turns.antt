@@ -8,12 +8,12 @@ use borrow.Author.Tests.{not-true, not-false}
 use lib.Dec.{eqb}
 use lib.ListN.{length, getD, set, drop}
 use Rattle.table_slots.specs.Slot.{slotCount, live, slot}
+use Rattle.table_slots.specs.Marks.{marksAfter}
+use Rattle.table_slots.proofs.Marked.{marks-skip, marks-more, marks-all}
 use Rattle.table_criteria.specs.declared.Criteria.{Criteria}
 use Rattle.table_criteria.specs.declared.Criterion.{Criterion}
 use Rattle.table_criteria.specs.Matching.{all, listed, meets, matchesAt}
-use Rattle.table_criteria.specs.Marks.{marksAfter}
 use Rattle.table_criteria.proofs.Walk.{walk-free, walk-fails, walk-ends}
-use Rattle.table_match.proofs.Marks.{marks-skip, marks-more, marks-all}
 
 -- m is the marks before the turn, m′ after it
 module _ (m m′ p t : List ℕ) (c : Criteria) (k : ℕ) (e : m ≡ marksAfter (matchesAt p (listed c) t) k) where

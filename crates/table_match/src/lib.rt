@@ -1,8 +1,8 @@
 // Which slots a request names: whether one of them matches, and the marks of all.
 ghost use mathlib.Core.Path.{_≡_};
 ghost use Rattle.table_slots.specs.Slot.{slotCount};
+ghost use Rattle.table_slots.specs.Marks.{marksAfter};
 ghost use Rattle.table_criteria.specs.Matching.{listed, matchesAt};
-ghost use Rattle.table_criteria.specs.Marks.{marksAfter};
 use table_criteria::Criteria;
 use table_criteria::compare;
 

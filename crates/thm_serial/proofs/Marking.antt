@@ -12,7 +12,7 @@ use lib.Dec.{eqb, ltb}
 use lib.IntN.{ℤ}
 use lib.ListN.{set}
 use Rattle.table_slots.specs.Slot.{slotCount}
-use Rattle.table_criteria.specs.Marks.{marksAfter}
+use Rattle.table_slots.specs.Marks.{marksAfter}
 use Rattle.table_change.specs.Change.{countMarked}
 use Rattle.rule_stamp.specs.Stamp.{stampOf}
 use Rattle.rule_causes.specs.declared.Cause.the-variants.{SessionNotFound, NoCause}

@@ -7,10 +7,10 @@ use mathlib.Core.Logic.{⊎-elim}
 use lib.ListN.{length, drop}
 use Rattle.table_slots.specs.Slot.{live}
 use Rattle.table_slots.proofs.Count.{Counted, counted-is}
+use Rattle.table_slots.specs.Marks.{marksAfter}
+use Rattle.table_slots.proofs.Marked.{marks-start}
 use Rattle.table_criteria.specs.Matching.{all, listed, meets, matchesAt}
-use Rattle.table_criteria.specs.Marks.{marksAfter}
 use Rattle.table_criteria.proofs.Walk.{walk-starts, walk-next, inside-at}
-use Rattle.table_match.proofs.Marks.{marks-start}
 use Rattle.table_match.proofs.Turns.{turn-free, turn-fails, turn-dead, turn-meets, turns-end}
 use borrow.Author.Needs.{needs}
 use Rattle.table_match.proofs.mark_all.Statement.{statement}
