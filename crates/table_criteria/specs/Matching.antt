@@ -7,19 +7,19 @@ use Prim.Native.Nat.{ℕ, _+_}
 use lib.Dec.{leb}
 use lib.ListN.{length, take}
 use Rattle.octet_numbers.specs.Runs.{part, equalBytes}
-use Rattle.table_slots.specs.Slot.{live, slot, text}
+use Rattle.table_slots.specs.Slot.{live, slot, userName, callingStation, sessionId}
 use Rattle.table_criteria.specs.declared.Criteria.{Criteria}
 use Rattle.table_criteria.specs.declared.Criterion.{Criterion}
 use Rattle.table_criteria.specs.declared.Field.{Field}
 use Rattle.table_criteria.specs.declared.Field.the-variants.{UserName, NasPort, FramedAddress, CallingStation, SessionId}
 
--- the bytes of a slot that a criterion is compared with: all four of a number, those of a text's length
+-- the bytes of a slot that a criterion is compared with: a text, or the four bytes that hold a number (`nasPort`, `framedAddress`)
 unfoldable pub fieldBytes : Field → List ℕ → List ℕ
-fieldBytes UserName s = text 18 s
+fieldBytes UserName s = userName s
 fieldBytes NasPort s = part 2 4 s
 fieldBytes FramedAddress s = part 6 4 s
-fieldBytes CallingStation s = text 115 s
-fieldBytes SessionId s = text 82 s
+fieldBytes CallingStation s = callingStation s
+fieldBytes SessionId s = sessionId s
 
 -- where a field begins: a number before place 18, a text with its length byte
 unfoldable pub place : Field → ℕ
