@@ -14,27 +14,28 @@ use Rattle.table_criteria.specs.declared.Field.the-variants.{UserName, NasPort,
 use Rattle.table_criteria.specs.declared.Criterion.{Criterion}
 use Rattle.table_criteria.specs.declared.Criteria.{Criteria}
 use Rattle.table_criteria.specs.Matching.{listed}
-use Rattle.table_change.specs.declared.Number.the-variants.{Keep, Set}
-use Rattle.table_change.specs.declared.Text.the-variants.{Same, Value}
+use Rattle.table_change.specs.declared.Number.the-variants as N
+use Rattle.table_change.specs.declared.Text.the-variants as T
 use Rattle.das_effects.specs.Kept.{keptPlace, keptSize, ifKept, keptCriteria, keptNumber, keptText}
 
 module _ (k : ℕ) (count ends sizes : List ℕ) (b : Bool) (is : b ≡ seenAt count k) where
-  pub number-none : (area : List ℕ) → b ≡ false → Keep ≡ keptNumber area k count ends sizes
+  pub number-none : (area : List ℕ) → b ≡ false → N.Unchanged ≡ keptNumber area k count ends sizes
   unfolding keptNumber
   number-none area h = rw (← is, h)
 
-  pub number-there : (area : List ℕ) (at v : ℕ) → b ≡ true → at ≡ keptPlace k ends sizes → v ≡ be at 4 area → Set v ≡ keptNumber area k count ends sizes
+  pub number-there : (area : List ℕ) (at v : ℕ) → b ≡ true → at ≡ keptPlace k ends sizes → v ≡ be at 4 area
+      → N.Set v ≡ keptNumber area k count ends sizes
   unfolding keptNumber
   number-there area at v h i j = rw (← is, h, ← i, j)
 
   pub number-lies : (area : List ℕ) (at : ℕ) → (seenAt count k ≡ true → keptPlace k ends sizes + 4 ≤ length area) → b ≡ true → at ≡ keptPlace k ends sizes → at + 4 ≤ length area
   number-lies area at g h i = rw i (g (sym is ∙ h))
 
-  pub text-none : b ≡ false → Same ≡ keptText k count ends sizes
+  pub text-none : b ≡ false → T.Unchanged ≡ keptText k count ends sizes
   unfolding keptText
   text-none h = rw (← is, h)
 
-  pub text-there : (at n : ℕ) → b ≡ true → at ≡ keptPlace k ends sizes → n ≡ keptSize k sizes → Value at n ≡ keptText k count ends sizes
+  pub text-there : (at n : ℕ) → b ≡ true → at ≡ keptPlace k ends sizes → n ≡ keptSize k sizes → T.Set at n ≡ keptText k count ends sizes
   unfolding keptText
   text-there at n h i j = rw (← is, h, i, j)
 

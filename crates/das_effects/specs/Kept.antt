@@ -11,9 +11,9 @@ use Rattle.table_criteria.specs.declared.Field.{Field}
 use Rattle.table_criteria.specs.declared.Field.the-variants.{UserName, NasPort, FramedAddress, CallingStation, SessionId}
 use Rattle.table_criteria.specs.declared.Criterion.{Criterion}
 use Rattle.table_change.specs.declared.Number.{Number}
-use Rattle.table_change.specs.declared.Number.the-variants.{Keep, Set}
+use Rattle.table_change.specs.declared.Number.the-variants as N
 use Rattle.table_change.specs.declared.Text.{Text}
-use Rattle.table_change.specs.declared.Text.the-variants.{Same, Value}
+use Rattle.table_change.specs.declared.Text.the-variants as T
 
 -- where the value of the first attribute of type k lies, and how long it is
 abbrev pub keptPlace : ℕ → List ℕ → List ℕ → ℕ
@@ -40,7 +40,7 @@ keptCriteria count ends sizes =
 
 -- what a CoA sets a number or a text to
 unfoldable pub keptNumber : List ℕ → ℕ → List ℕ → List ℕ → List ℕ → Number
-keptNumber area k count ends sizes = cond (seenAt count k) (Set (be (keptPlace k ends sizes) 4 area)) Keep
+keptNumber area k count ends sizes = cond (seenAt count k) (N.Set (be (keptPlace k ends sizes) 4 area)) N.Unchanged
 
 unfoldable pub keptText : ℕ → List ℕ → List ℕ → List ℕ → Text
-keptText k count ends sizes = cond (seenAt count k) (Value (keptPlace k ends sizes) (keptSize k sizes)) Same
+keptText k count ends sizes = cond (seenAt count k) (T.Set (keptPlace k ends sizes) (keptSize k sizes)) T.Unchanged

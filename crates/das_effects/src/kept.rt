@@ -81,7 +81,7 @@ pub fn number(
     if attr_lookup::has(count, kind) {
         return table_change::Number::Set(octet_numbers::be32(s, place(ends, sizes, kind)));
     }
-    table_change::Number::Keep
+    table_change::Number::Unchanged
 }
 
 // A text that a CoA sets.
@@ -89,7 +89,7 @@ pub fn text(kind: u8, count: &[u8; 256], ends: &[u16; 256], sizes: &[u8; 256]) -
     ensures { λ r. ⌜ r ≡ keptText kind (now (count .entry)) (now (ends .entry)) (now (sizes .entry)) ⌝ }
 {
     if attr_lookup::has(count, kind) {
-        return table_change::Text::Value(place(ends, sizes, kind), size(sizes, kind));
+        return table_change::Text::Set(place(ends, sizes, kind), size(sizes, kind));
     }
-    table_change::Text::Same
+    table_change::Text::Unchanged
 }

@@ -62,7 +62,8 @@ module _ (r : Bool) (a b : List ℕ) (i : ℕ) (left : r ≡ equalBytes (drop i 
         same : drop i a ≡ drop i b → (k : ℕ) → getD a (i + k) 0 ≡ getD b (i + k) 0
         same e k = sym (getD-drop i a k 0) ∙ ap (λ (l : List ℕ). getD l k 0) e ∙ getD-drop i b k 0
 
-    pub words-next : x ≡ y → 4 ≤ length a - i → ((k : ℕ) → Fits w8 (getD a k 0)) → ((k : ℕ) → Fits w8 (getD b k 0)) → r ≡ equalBytes (drop (i + 4) a) (drop (i + 4) b)
+    pub words-next : x ≡ y → 4 ≤ length a - i → ((k : ℕ) → Fits w8 (getD a k 0)) → ((k : ℕ) → Fits w8 (getD b k 0))
+        → r ≡ equalBytes (drop (i + 4) a) (drop (i + 4) b)
     words-next e h fa fb =
         let same : part i 4 a ≡ part i 4 b = same-part a b i i 4 (omega arith) (omega arith) fa fb (sym ex ∙ e ∙ ey) in
         left ∙ rw (split a i 4, split b i 4, same) (front (part i 4 b) (drop (i + 4) a) (drop (i + 4) b))

@@ -54,7 +54,7 @@ fn number_of(set: u32, v: u32) -> table_change::Number
     ensures { λ r. ⌜ r ≡ numberOf set v ⌝ }
 {
     if set == 0 {
-        return table_change::Number::Keep;
+        return table_change::Number::Unchanged;
     }
     table_change::Number::Set(v)
 }
@@ -64,9 +64,9 @@ fn text_of(set: u32, at: usize, size: usize) -> table_change::Text
     ensures { λ r. ⌜ r ≡ textOf set at size ⌝ }
 {
     if set == 0 {
-        return table_change::Text::Same;
+        return table_change::Text::Unchanged;
     }
-    table_change::Text::Value(at, size)
+    table_change::Text::Set(at, size)
 }
 
 // The end of a session where the flag is not 0, else what is set.

@@ -1,5 +1,5 @@
--- A slot against a list of criteria, as the code walks it. Which sessions a request names is said in das_effects/specs/Matching.antt; of this file the contracts of the
--- calls use `fieldBytes` alone, the field of a session that a criterion asks for.
+-- A slot against a list of criteria, as the code walks it. Which sessions a request names is said in das_effects/specs/Matching.antt; of
+-- this file the contracts of the calls use `fieldBytes` alone, the field of a session that a criterion asks for.
 -- Assumes nothing.
 use mathlib.Core.Bool.{Bool, true, _&&_}
 use mathlib.Core.List.{List, [], _∷_}
@@ -29,17 +29,17 @@ place FramedAddress = 6
 place CallingStation = 115
 place SessionId = 82
 
--- the value asked for, a part of the bytes p of the request
+-- the value asked for, a part of the area of the request's attributes
 abbrev pub wanted : List ℕ → Criterion → List ℕ
-wanted p c = part (c .at) (c .size) p
+wanted area c = part (c .at) (c .size) area
 
--- it lies in the request as a whole, and is no longer than a text can be
+-- it lies in the area as a whole, and is no longer than a text can be
 unfoldable pub inside : List ℕ → Criterion → Bool
-inside p c = leb (c .at + c .size) (length p) && leb (c .size) 63
+inside area c = leb (c .at + c .size) (length area) && leb (c .size) 63
 
 -- the field equals the value asked for
 unfoldable pub meets : List ℕ → List ℕ → Criterion → Bool
-meets p s c = equalBytes (wanted p c) (fieldBytes (c .field) s)
+meets area s c = equalBytes (wanted area c) (fieldBytes (c .field) s)
 
 abbrev pub all : (Criterion → Bool) → List Criterion → Bool
 all f [] = true
@@ -51,8 +51,8 @@ listed c = take (c .count) (c .list)
 
 -- a live slot that meets every criterion
 unfoldable pub matches : List ℕ → List Criterion → List ℕ → Bool
-matches p cs s = live s && all (meets p s) cs
+matches area cs s = live s && all (meets area s) cs
 
 -- slot k of the table t does
 abbrev pub matchesAt : List ℕ → List Criterion → List ℕ → ℕ → Bool
-matchesAt p cs t k = matches p cs (slot k t)
+matchesAt area cs t k = matches area cs (slot k t)

@@ -1,4 +1,4 @@
--- A text field, written: length, value and zeros, one behind the other.
+-- A text field, written: length, value and zeros, one after the other.
 -- Assumes nothing.
 use mathlib.Core.Path.{_≡_, ap, _∙_}
 use mathlib.Core.List.{List}

@@ -1,4 +1,4 @@
--- What a write elsewhere in a slot keeps: liveness goes by six bytes, a text by its length byte and the bytes behind it.
+-- What a write elsewhere in a slot keeps: liveness goes by six bytes, a text by its length byte and the bytes after it.
 -- Assumes nothing.
 use mathlib.Core.Path.{_≡_}
 use mathlib.Core.Bool.{Bool, true, _&&_}

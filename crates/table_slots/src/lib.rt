@@ -50,7 +50,7 @@ pub fn in_range(lo: usize, hi: usize, n: usize) -> bool
     n <= hi
 }
 
-// Whether the slot s opens with the mark.
+// Whether the slot s opens with the record's mark.
 pub fn has_mark(s: &[u8]) -> bool
     ensures { λ r. ⌜ r ≡ eqb (getD (now (s .entry)) 0 0) 0x5A && eqb (getD (now (s .entry)) 1 0) 0x4C ⌝ }
 {

@@ -1,4 +1,4 @@
--- `table_records::put_mark` meets its contract: two stores, one behind the other, are a write.
+-- `table_records::put_mark` meets its contract: two stores, one after the other, are a write.
 -- Assumes nothing.
 use native.Mathlib.Omega.{arith}
 use lib.ListN.{length-set}

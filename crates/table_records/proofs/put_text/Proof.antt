@@ -1,4 +1,4 @@
--- `table_records::put_text` meets its contract: length, value and zeros go one behind the other.
+-- `table_records::put_text` meets its contract: length, value and zeros go one after the other.
 -- Assumes nothing.
 use Rattle.table_records.proofs.Fields.{kept-low, kept-short, kept-fits, zeros-fit, text-long, text-written}
 use borrow.Author.Needs.{needs}
