@@ -1,131 +1,48 @@
 -- An answer as numbers, case by case: each arm of the code gives what the definition gives for its variant.
 -- Assumes nothing.
-use mathlib.Core.Path.{_≡_, _∙_}
+use mathlib.Core.Path.{_≡_}
 use Prim.Native.Nat.{ℕ, _+_, _<_}
 use lib.IntN.{ℤ, pos}
 use Rattle.rule_causes.specs.declared.Cause.{Cause}
 use Rattle.rule_causes.specs.Causes.{errorCause}
 use Rattle.das_answer.specs.declared.Answer as D
 use Rattle.das_answer.specs.declared.Answer.the-variants as A
-use Rattle.c_numbers.specs.Numbers.{numberOf, changedBy, lengthBy, skewBy, stampedBy}
+use Rattle.c_numbers.specs.Numbers.{Told, told, alone, answerTold, Small}
 
-module _ (a : D.Answer) (n : ℕ) (e : a ≡ A.Refused n) where
-  pub refused-number : (v : ℕ) → v ≡ n → v ≡ numberOf a
-  unfolding numberOf
-  refused-number v h = h ∙ rw e
+-- the code's five numbers: v the answer's, and beside it m, l, k and s
+module _ (a : D.Answer) (v m l : ℕ) (k : ℤ) (s : ℕ) where
+  pub told-refused : (n : ℕ) → a ≡ A.Refused n → v ≡ n → told v m l k s ≡ answerTold a (told 0 m l k s)
+  unfolding answerTold
+  told-refused n e h = rw (e, h)
 
-  pub refused-changed : (old : ℕ) (v : ℕ) → v ≡ old → v ≡ changedBy a old
-  unfolding changedBy
-  refused-changed old v h = h ∙ rw e
+  module _ (old : Told) where
+    pub told-discarded : (d : ℕ) → a ≡ A.Discarded d → v ≡ 100 + d → m ≡ 0 → l ≡ 0 → k ≡ pos 0 → s ≡ 0 → told v m l k s ≡ answerTold a old
+    unfolding answerTold
+    told-discarded d e ev em el ek es = rw (e, ev, em, el, ek, es)
 
-  pub refused-size : (old : ℕ) (v : ℕ) → v ≡ old → v ≡ lengthBy a old
-  unfolding lengthBy
-  refused-size old v h = h ∙ rw e
+    pub told-stale : (skew : ℤ) → a ≡ A.Stale skew → v ≡ 106 → m ≡ 0 → l ≡ 0 → k ≡ skew → s ≡ 1 → told v m l k s ≡ answerTold a old
+    unfolding answerTold
+    told-stale skew e ev em el ek es = rw (e, ev, em, el, ek, es)
 
-  pub refused-skew : (old : ℤ) (v : ℤ) → v ≡ old → v ≡ skewBy a old
-  unfolding skewBy
-  refused-skew old v h = h ∙ rw e
+    pub told-nak : (c : Cause) (skew : ℤ) (n : ℕ) → a ≡ A.Nak c skew n → v ≡ errorCause c → m ≡ 0 → l ≡ n → k ≡ skew → s ≡ 1
+        → told v m l k s ≡ answerTold a old
+    unfolding answerTold
+    told-nak c skew n e ev em el ek es = rw (e, ev, em, el, ek, es)
 
-  pub refused-stamped : (old : ℕ) (v : ℕ) → v ≡ old → v ≡ stampedBy a old
-  unfolding stampedBy
-  refused-stamped old v h = h ∙ rw e
+    pub told-ack : (c : ℕ) (skew : ℤ) (n : ℕ) → a ≡ A.Ack c skew n → v ≡ 0 → m ≡ c → l ≡ n → k ≡ skew → s ≡ 1 → told v m l k s ≡ answerTold a old
+    unfolding answerTold
+    told-ack c skew n e ev em el ek es = rw (e, ev, em, el, ek, es)
 
-module _ (a : D.Answer) (d : ℕ) (e : a ≡ A.Discarded d) where
-  pub discarded-number : (v : ℕ) → v ≡ 100 + d → v ≡ numberOf a
-  unfolding numberOf
-  discarded-number v h = h ∙ rw e
+-- what is counted fits
+module _ (a : D.Answer) (small : Small (answerTold a (alone 0))) where
+  pub nak-fits : (c : Cause) (skew : ℤ) (n : ℕ) → a ≡ A.Nak c skew n → n < 4294967296
+  unfolding answerTold
+  nak-fits c skew n e = rw e at (small .short)
 
-  pub discarded-changed : (old : ℕ) (v : ℕ) → v ≡ 0 → v ≡ changedBy a old
-  unfolding changedBy
-  discarded-changed old v h = h ∙ rw e
+  pub ack-few : (c : ℕ) (skew : ℤ) (n : ℕ) → a ≡ A.Ack c skew n → c < 4294967296
+  unfolding answerTold
+  ack-few c skew n e = rw e at (small .few)
 
-  pub discarded-size : (old : ℕ) (v : ℕ) → v ≡ 0 → v ≡ lengthBy a old
-  unfolding lengthBy
-  discarded-size old v h = h ∙ rw e
-
-  pub discarded-skew : (old : ℤ) (v : ℤ) → v ≡ pos 0 → v ≡ skewBy a old
-  unfolding skewBy
-  discarded-skew old v h = h ∙ rw e
-
-  pub discarded-stamped : (old : ℕ) (v : ℕ) → v ≡ 0 → v ≡ stampedBy a old
-  unfolding stampedBy
-  discarded-stamped old v h = h ∙ rw e
-
-module _ (a : D.Answer) (k : ℤ) (e : a ≡ A.Stale k) where
-  pub stale-number : (v : ℕ) → v ≡ 106 → v ≡ numberOf a
-  unfolding numberOf
-  stale-number v h = h ∙ rw e
-
-  pub stale-changed : (old : ℕ) (v : ℕ) → v ≡ 0 → v ≡ changedBy a old
-  unfolding changedBy
-  stale-changed old v h = h ∙ rw e
-
-  pub stale-size : (old : ℕ) (v : ℕ) → v ≡ 0 → v ≡ lengthBy a old
-  unfolding lengthBy
-  stale-size old v h = h ∙ rw e
-
-  pub stale-skew : (old : ℤ) (v : ℤ) → v ≡ k → v ≡ skewBy a old
-  unfolding skewBy
-  stale-skew old v h = h ∙ rw e
-
-  pub stale-stamped : (old : ℕ) (v : ℕ) → v ≡ 1 → v ≡ stampedBy a old
-  unfolding stampedBy
-  stale-stamped old v h = h ∙ rw e
-
-module _ (a : D.Answer) (c : Cause) (k : ℤ) (n : ℕ) (e : a ≡ A.Nak c k n) where
-  pub nak-number : (v : ℕ) → v ≡ errorCause c → v ≡ numberOf a
-  unfolding numberOf
-  nak-number v h = h ∙ rw e
-
-  pub nak-changed : (old : ℕ) (v : ℕ) → v ≡ 0 → v ≡ changedBy a old
-  unfolding changedBy
-  nak-changed old v h = h ∙ rw e
-
-  pub nak-size : (old : ℕ) (v : ℕ) → v ≡ n → v ≡ lengthBy a old
-  unfolding lengthBy
-  nak-size old v h = h ∙ rw e
-
-  pub nak-skew : (old : ℤ) (v : ℤ) → v ≡ k → v ≡ skewBy a old
-  unfolding skewBy
-  nak-skew old v h = h ∙ rw e
-
-  pub nak-stamped : (old : ℕ) (v : ℕ) → v ≡ 1 → v ≡ stampedBy a old
-  unfolding stampedBy
-  nak-stamped old v h = h ∙ rw e
-
-  pub nak-fits : lengthBy a 0 < 4294967296 → n < 4294967296
-  unfolding lengthBy
-  nak-fits h = rw e at h
-
-module _ (a : D.Answer) (m : ℕ) (k : ℤ) (n : ℕ) (e : a ≡ A.Ack m k n) where
-  pub ack-number : (v : ℕ) → v ≡ 0 → v ≡ numberOf a
-  unfolding numberOf
-  ack-number v h = h ∙ rw e
-
-  pub ack-changed : (old : ℕ) (v : ℕ) → v ≡ m → v ≡ changedBy a old
-  unfolding changedBy
-  ack-changed old v h = h ∙ rw e
-
-  pub ack-size : (old : ℕ) (v : ℕ) → v ≡ n → v ≡ lengthBy a old
-  unfolding lengthBy
-  ack-size old v h = h ∙ rw e
-
-  pub ack-skew : (old : ℤ) (v : ℤ) → v ≡ k → v ≡ skewBy a old
-  unfolding skewBy
-  ack-skew old v h = h ∙ rw e
-
-  pub ack-stamped : (old : ℕ) (v : ℕ) → v ≡ 1 → v ≡ stampedBy a old
-  unfolding stampedBy
-  ack-stamped old v h = h ∙ rw e
-
-  pub ack-fits : lengthBy a 0 < 4294967296 → n < 4294967296
-  unfolding lengthBy
-  ack-fits h = rw e at h
-
-  pub ack-few : changedBy a 0 < 4294967296 → m < 4294967296
-  unfolding changedBy
-  ack-few h = rw e at h
-
--- k and old, and the same as the machine holds them
-pub held-skew : (a : D.Answer) (k k′ old old′ : ℤ) → k ≡ skewBy a old′ → k′ ≡ k → old′ ≡ old → k′ ≡ skewBy a old
-held-skew a k k′ old old′ h e i = e ∙ h ∙ rw i
+  pub ack-fits : (c : ℕ) (skew : ℤ) (n : ℕ) → a ≡ A.Ack c skew n → n < 4294967296
+  unfolding answerTold
+  ack-fits c skew n e = rw e at (small .short)

@@ -1,7 +1,7 @@
--- Answers as numbers for C: 0 acknowledged or done; 1 to 99 refused, document 01's R number; 100 + n discarded by Dn; 200 + n failed Vn; 401 to 599 NAK with
--- that Error-Cause. Beside them go numbers which a refusal leaves as they were.
+-- Answers as numbers for C: 0 acknowledged or done; 1 to 99 refused, document 01's R number; 100 + n discarded by Dn; 200 + n failed Vn;
+-- 401 to 599 NAK with that Error-Cause. Beside them go numbers which a refusal leaves as they were.
 -- Assumes nothing.
-use Prim.Native.Nat.{ℕ, _+_}
+use Prim.Native.Nat.{ℕ, _+_, _^_, _<_}
 use lib.IntN.{ℤ, pos}
 use Rattle.rule_causes.specs.Causes.{errorCause}
 use Rattle.das_answer.specs.declared.Answer as D
@@ -11,43 +11,37 @@ use Rattle.dac_write.specs.declared.Written.the-variants.{Done, NotWritten}
 use Rattle.dac_check.specs.declared.Checked as C
 use Rattle.dac_check.specs.declared.Checked.the-variants.{Right, Failed, NotChecked}
 
-unfoldable pub numberOf : D.Answer → ℕ
-numberOf (Refused n) = n
-numberOf (Discarded d) = 100 + d
-numberOf (Stale skew) = 106
-numberOf (Nak c skew n) = errorCause c
-numberOf (Ack k skew n) = 0
+-- what C is told of an answer
+pub record Told : Type 0 where
+  -- its number
+  pub answer : ℕ
+  -- sessions changed: 0 unless ACK
+  pub changed : ℕ
+  -- the reply's length: 0 where there is none
+  pub length : ℕ
+  -- the signed skew, and 1; or 0 and 0 where no stamp is usable
+  pub skew : ℤ
+  pub stamped : ℕ
 
--- sessions changed: 0 unless ACK
-unfoldable pub changedBy : D.Answer → ℕ → ℕ
-changedBy (Refused n) old = old
-changedBy (Discarded d) old = 0
-changedBy (Stale skew) old = 0
-changedBy (Nak c skew n) old = 0
-changedBy (Ack k skew n) old = k
+abbrev pub told : ℕ → ℕ → ℕ → ℤ → ℕ → Told
+told answer changed size skew stamped = record { answer = answer; changed = changed; length = size; skew = skew; stamped = stamped }
 
--- the reply's length: 0 where there is none
-unfoldable pub lengthBy : D.Answer → ℕ → ℕ
-lengthBy (Refused n) old = old
-lengthBy (Discarded d) old = 0
-lengthBy (Stale skew) old = 0
-lengthBy (Nak c skew n) old = n
-lengthBy (Ack k skew n) old = n
+-- an answer alone, all other numbers 0
+abbrev pub alone : ℕ → Told
+alone answer = told answer 0 0 (pos 0) 0
 
--- the signed skew, and 1; or 0 and 0 where no stamp is usable
-unfoldable pub skewBy : D.Answer → ℤ → ℤ
-skewBy (Refused n) old = old
-skewBy (Discarded d) old = pos 0
-skewBy (Stale skew) old = skew
-skewBy (Nak c skew n) old = skew
-skewBy (Ack k skew n) old = skew
+-- the five answers; a refusal leaves the four numbers beside it as they were
+unfoldable pub answerTold : D.Answer → Told → Told
+answerTold (Refused n) old = told n (old .changed) (old .length) (old .skew) (old .stamped)
+answerTold (Discarded d) old = told (100 + d) 0 0 (pos 0) 0
+answerTold (Stale skew) old = told 106 0 0 skew 1
+answerTold (Nak c skew n) old = told (errorCause c) 0 n skew 1
+answerTold (Ack k skew n) old = told 0 k n skew 1
 
-unfoldable pub stampedBy : D.Answer → ℕ → ℕ
-stampedBy (Refused n) old = old
-stampedBy (Discarded d) old = 0
-stampedBy (Stale skew) old = 1
-stampedBy (Nak c skew n) old = 1
-stampedBy (Ack k skew n) old = 1
+-- for inner contracts: the two that are counted fit into 32 bits
+pub record Small (n : Told) : Type 0 where
+  pub few : n .changed < 2 ^ 32
+  pub short : n .length < 2 ^ 32
 
 -- a request written: 0, and its length; or document 01's R number, and the length as it was
 unfoldable pub writtenNumber : W.Written → ℕ

@@ -1,11 +1,12 @@
 // What C is told of a step that is not refused. It exports nothing.
 ghost use mathlib.Core.Path.{_≡_};
-ghost use Rattle.c_told.specs.Told.{told, toldBy, outcomeOf, Small};
+ghost use Rattle.c_numbers.specs.Numbers.{told, alone, Small};
+ghost use Rattle.c_told.specs.Told.{toldBy, outcomeOf};
 use sched_job::Ending;
 
 // The number of a step's answer, and the four numbers beside it written.
 pub fn tell(e: Ending, changed: &mut u32, size: &mut u32, skew: &mut i64, stamped: &mut u32) -> u32
-    requires { ⌜ Small e ⌝ }
+    requires { ⌜ Small (toldBy (outcomeOf e) (alone 0)) ⌝ }
     ensures { λ r. ⌜ told r (now (changed .exit)) (now (size .exit)) (now (skew .exit)) (now (stamped .exit)) ≡ toldBy (outcomeOf e) (told 0 (now (changed .entry)) (now (size .entry)) (now (skew .entry)) (now (stamped .entry))) ⌝ }
 {
     *changed = 0;

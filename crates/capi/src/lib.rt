@@ -13,7 +13,7 @@ ghost use Rattle.nas_settings.specs.Settings.{settings};
 ghost use Rattle.das_handle.specs.Handle.{handleAnswer, handleTable, handleReply};
 ghost use Rattle.dac_write.specs.Writer.{draft, writeAnswer, writeOutput};
 ghost use Rattle.dac_check.specs.ReplyCheck.{checkAnswer};
-ghost use Rattle.c_numbers.specs.Numbers.{numberOf, changedBy, lengthBy, skewBy, stampedBy, writtenNumber, writtenLength, checkedNumber};
+ghost use Rattle.c_numbers.specs.Numbers.{told, answerTold, writtenNumber, writtenLength, checkedNumber};
 
 // Handles a request.
 #[no_mangle]
@@ -30,13 +30,9 @@ pub extern "C" fn fbk_handle(
     skew: &mut i64,
     stamped: &mut u32,
 ) -> u32
-    ensures { λ r. ⌜ r ≡ numberOf (handleAnswer (settings (now (secret .entry)) address (now (name .entry))) (now (table .entry)) (now (reply .entry)) (now (packet .entry)) clock) ⌝ }
+    ensures { λ r. ⌜ told r (now (changed .exit)) (now (size .exit)) (now (skew .exit)) (now (stamped .exit)) ≡ answerTold (handleAnswer (settings (now (secret .entry)) address (now (name .entry))) (now (table .entry)) (now (reply .entry)) (now (packet .entry)) clock) (told 0 (now (changed .entry)) (now (size .entry)) (now (skew .entry)) (now (stamped .entry))) ⌝ }
     ensures { λ _. ⌜ now (table .exit) ≡ handleTable (settings (now (secret .entry)) address (now (name .entry))) (now (table .entry)) (now (reply .entry)) (now (packet .entry)) clock ⌝ }
     ensures { λ _. ⌜ now (reply .exit) ≡ handleReply (settings (now (secret .entry)) address (now (name .entry))) (now (table .entry)) (now (reply .entry)) (now (packet .entry)) clock ⌝ }
-    ensures { λ _. ⌜ now (changed .exit) ≡ changedBy (handleAnswer (settings (now (secret .entry)) address (now (name .entry))) (now (table .entry)) (now (reply .entry)) (now (packet .entry)) clock) (now (changed .entry)) ⌝ }
-    ensures { λ _. ⌜ now (size .exit) ≡ lengthBy (handleAnswer (settings (now (secret .entry)) address (now (name .entry))) (now (table .entry)) (now (reply .entry)) (now (packet .entry)) clock) (now (size .entry)) ⌝ }
-    ensures { λ _. ⌜ now (skew .exit) ≡ skewBy (handleAnswer (settings (now (secret .entry)) address (now (name .entry))) (now (table .entry)) (now (reply .entry)) (now (packet .entry)) clock) (now (skew .entry)) ⌝ }
-    ensures { λ _. ⌜ now (stamped .exit) ≡ stampedBy (handleAnswer (settings (now (secret .entry)) address (now (name .entry))) (now (table .entry)) (now (reply .entry)) (now (packet .entry)) clock) (now (stamped .entry)) ⌝ }
 {
     let a = das_handle::handle(table, secret, address, name, reply, packet, clock);
     c_numbers::numbers::tell(a, changed, size, skew, stamped)

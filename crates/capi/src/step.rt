@@ -3,7 +3,8 @@ ghost use mathlib.Core.Path.{_≡_};
 ghost use Rattle.sched_state.specs.Calls.{stepCalled, stepTable, stepReply};
 ghost use Rattle.sched_rows.specs.Layout.{held, schedulerIn};
 ghost use Rattle.sched_rows.specs.Left.{stepLeft};
-ghost use Rattle.c_told.specs.Told.{told, toldBy};
+ghost use Rattle.c_numbers.specs.Numbers.{told};
+ghost use Rattle.c_told.specs.Told.{toldBy};
 
 #[no_mangle]
 pub extern "C" fn fbk_step_lent(

@@ -20,19 +20,21 @@ use Rattle.attr_types.specs.Types.{sixTypes, misfitting}
 use Rattle.rule_causes.proofs.Passed.{first-six}
 use Rattle.table_change.specs.declared.Change.the-variants.{End, Alter}
 use Rattle.table_change.specs.declared.Number.{Number}
-use Rattle.table_change.specs.declared.Number.the-variants.{Keep, Set}
+use Rattle.table_change.specs.declared.Number.the-variants as N
 use Rattle.table_change.specs.declared.Alteration.{Alteration}
 use Rattle.table_change.specs.declared.Text.{Text}
-use Rattle.table_change.specs.declared.Text.the-variants.{Same, Value}
+use Rattle.table_change.specs.declared.Text.the-variants as T
 use Rattle.das_effects.specs.Changes.{numberAt, textAt, alterationOf, changeOf}
 use Rattle.attr_lookup.specs.Lookup.{keptPlace}
 use Rattle.das_effects.specs.Taken.{takenNumber, takenText}
 
-number-in : (area : List ℕ) (z : Search) (b : Bool) (end size : ℕ) → b ≡ found z → end ≡ endOf z → size ≡ sizeOf z → cond b (Set (be (end - size + 2) 4 area)) Keep ≡ numberAt area z
+number-in : (area : List ℕ) (z : Search) (b : Bool) (end size : ℕ) → b ≡ found z → end ≡ endOf z → size ≡ sizeOf z
+    → cond b (N.Set (be (end - size + 2) 4 area)) N.Unchanged ≡ numberAt area z
 number-in area (At a) b end size h e g = let o : end - size ≡ a .at = omega arith in rw (h, o)
 number-in area Missing b end size h e g = rw h
 
-text-in : (z : Search) (b : Bool) (end size : ℕ) → b ≡ found z → end ≡ endOf z → size ≡ sizeOf z → cond b (Value (end - size + 2) (size - 2)) Same ≡ textAt z
+text-in : (z : Search) (b : Bool) (end size : ℕ) → b ≡ found z → end ≡ endOf z → size ≡ sizeOf z
+    → cond b (T.Set (end - size + 2) (size - 2)) T.Unchanged ≡ textAt z
 text-in (At a) b end size h e g = let o : end - size ≡ a .at = omega arith in rw (h, o, g)
 text-in Missing b end size h e g = rw h
 

@@ -23,8 +23,8 @@ use Rattle.table_criteria.specs.declared.Field.{Field}
 use Rattle.table_criteria.specs.declared.Field.the-variants.{UserName, NasPort, FramedAddress, CallingStation, SessionId}
 use Rattle.table_slots.specs.Slot.{slot}
 use Rattle.table_criteria.specs.Matching.{fieldBytes, meets, all, matches, matchesAt}
-use Rattle.table_criteria.specs.Marks.{marksAfter}
-use Rattle.table_criteria.proofs.Marked.{marks-same}
+use Rattle.table_slots.specs.Marks.{marksAfter}
+use Rattle.table_slots.proofs.Marked.{marks-same}
 use Rattle.das_effects.specs.Taken.{takenCriterion, ifThere, takenCriteria}
 use Rattle.das_effects.specs.Matching.{equalsField, allOf, sessionMatches, matchesIn}
 use Rattle.das_effects.proofs.Five.{asks, five, all-same, all-both, all-none}

@@ -14,28 +14,28 @@ use Rattle.table_criteria.specs.declared.Field.the-variants.{UserName, NasPort,
 use Rattle.table_criteria.specs.declared.Criterion.{Criterion}
 use Rattle.table_criteria.specs.declared.Criteria.{Criteria}
 use Rattle.table_criteria.specs.Matching.{listed}
-use Rattle.table_change.specs.declared.Number.the-variants.{Keep, Set}
-use Rattle.table_change.specs.declared.Text.the-variants.{Same, Value}
+use Rattle.table_change.specs.declared.Number.the-variants as N
+use Rattle.table_change.specs.declared.Text.the-variants as T
 use Rattle.attr_lookup.specs.Lookup.{keptPlace, keptSize}
 use Rattle.das_effects.specs.Taken.{ifThere, takenCriteria, takenNumber, takenText}
 
 module _ (k : ℕ) (count ends sizes : List ℕ) (b : Bool) (is : b ≡ seenAt count k) where
-  pub number-none : (area : List ℕ) → b ≡ false → Keep ≡ takenNumber area k count ends sizes
+  pub number-none : (area : List ℕ) → b ≡ false → N.Unchanged ≡ takenNumber area k count ends sizes
   unfolding takenNumber
   number-none area h = rw (← is, h)
 
-  pub number-there : (area : List ℕ) (at v : ℕ) → b ≡ true → at ≡ keptPlace k ends sizes → v ≡ be at 4 area → Set v ≡ takenNumber area k count ends sizes
+  pub number-there : (area : List ℕ) (at v : ℕ) → b ≡ true → at ≡ keptPlace k ends sizes → v ≡ be at 4 area → N.Set v ≡ takenNumber area k count ends sizes
   unfolding takenNumber
   number-there area at v h i j = rw (← is, h, ← i, j)
 
   pub number-lies : (area : List ℕ) (at : ℕ) → (seenAt count k ≡ true → keptPlace k ends sizes + 4 ≤ length area) → b ≡ true → at ≡ keptPlace k ends sizes → at + 4 ≤ length area
   number-lies area at g h i = rw i (g (sym is ∙ h))
 
-  pub text-none : b ≡ false → Same ≡ takenText k count ends sizes
+  pub text-none : b ≡ false → T.Unchanged ≡ takenText k count ends sizes
   unfolding takenText
   text-none h = rw (← is, h)
 
-  pub text-there : (at n : ℕ) → b ≡ true → at ≡ keptPlace k ends sizes → n ≡ keptSize k sizes → Value at n ≡ takenText k count ends sizes
+  pub text-there : (at n : ℕ) → b ≡ true → at ≡ keptPlace k ends sizes → n ≡ keptSize k sizes → T.Set at n ≡ takenText k count ends sizes
   unfolding takenText
   text-there at n h i j = rw (← is, h, i, j)
 

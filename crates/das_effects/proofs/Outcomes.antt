@@ -8,7 +8,7 @@ use native.Mathlib.Omega.{arith}
 use lib.ListN.{length}
 use Rattle.table_slots.specs.Slot.{slotCount, slot, live}
 use Rattle.table_slots.proofs.Count.{counted, count-same}
-use Rattle.table_criteria.proofs.Marked.{count-none}
+use Rattle.table_slots.proofs.Marked.{count-none}
 use Rattle.table_change.specs.Change.{changed}
 use Rattle.table_change.proofs.Slots.{length-changeWhere}
 use Rattle.table_change.proofs.Changed.{slot-changed}

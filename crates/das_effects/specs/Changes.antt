@@ -14,20 +14,20 @@ use Rattle.table_change.specs.declared.Change.{Change}
 use Rattle.table_change.specs.declared.Change.the-variants.{End, Alter}
 use Rattle.table_change.specs.declared.Alteration.{Alteration}
 use Rattle.table_change.specs.declared.Number.{Number}
-use Rattle.table_change.specs.declared.Number.the-variants.{Keep, Set}
+use Rattle.table_change.specs.declared.Number.the-variants as N
 use Rattle.table_change.specs.declared.Text.{Text}
-use Rattle.table_change.specs.declared.Text.the-variants.{Same, Value}
+use Rattle.table_change.specs.declared.Text.the-variants as T
 use Rattle.table_change.specs.Change.{changeWhere}
 use Rattle.das_effects.specs.Matching.{matchesIn}
 
 -- the four bytes of a value as a number, and where a value lies; nothing where there is no such attribute
 abbrev pub numberAt : List ℕ → Search → Number
-numberAt area (At a) = Set (be (a .at + 2) 4 area)
-numberAt area Missing = Keep
+numberAt area (At a) = N.Set (be (a .at + 2) 4 area)
+numberAt area Missing = N.Unchanged
 
 abbrev pub textAt : Search → Text
-textAt (At a) = Value (a .at + 2) (a .size - 2)
-textAt Missing = Same
+textAt (At a) = T.Set (a .at + 2) (a .size - 2)
+textAt Missing = T.Unchanged
 
 -- what a CoA names: Session-Timeout (27), Idle-Timeout (28), Filter-Id (11)
 unfoldable pub alterationOf : List ℕ → Alteration

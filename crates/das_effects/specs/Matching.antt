@@ -13,7 +13,7 @@ use Rattle.table_criteria.specs.declared.Field.{Field}
 use Rattle.table_criteria.specs.declared.Field.the-variants.{UserName, NasPort, FramedAddress, CallingStation, SessionId}
 use Rattle.table_slots.specs.Slot.{live, slot, slotCount}
 use Rattle.table_criteria.specs.Matching.{fieldBytes}
-use Rattle.table_criteria.specs.Marks.{countTo}
+use Rattle.table_slots.specs.Marks.{countTo}
 
 -- the field that a type of `criteria` is compared with: 1, 5, 8, 31, else 44
 unfoldable pub fieldFor : ℕ → Field

@@ -11,9 +11,9 @@ use Rattle.table_criteria.specs.declared.Field.{Field}
 use Rattle.table_criteria.specs.declared.Field.the-variants.{UserName, NasPort, FramedAddress, CallingStation, SessionId}
 use Rattle.table_criteria.specs.declared.Criterion.{Criterion}
 use Rattle.table_change.specs.declared.Number.{Number}
-use Rattle.table_change.specs.declared.Number.the-variants.{Keep, Set}
+use Rattle.table_change.specs.declared.Number.the-variants as N
 use Rattle.table_change.specs.declared.Text.{Text}
-use Rattle.table_change.specs.declared.Text.the-variants.{Same, Value}
+use Rattle.table_change.specs.declared.Text.the-variants as T
 
 -- the value of the first attribute of type k, asked of a field
 abbrev pub takenCriterion : Field → ℕ → List ℕ → List ℕ → Criterion
@@ -33,7 +33,7 @@ takenCriteria count ends sizes =
 
 -- what a CoA sets a number or a text to
 unfoldable pub takenNumber : List ℕ → ℕ → List ℕ → List ℕ → List ℕ → Number
-takenNumber area k count ends sizes = cond (seenAt count k) (Set (be (keptPlace k ends sizes) 4 area)) Keep
+takenNumber area k count ends sizes = cond (seenAt count k) (N.Set (be (keptPlace k ends sizes) 4 area)) N.Unchanged
 
 unfoldable pub takenText : ℕ → List ℕ → List ℕ → List ℕ → Text
-takenText k count ends sizes = cond (seenAt count k) (Value (keptPlace k ends sizes) (keptSize k sizes)) Same
+takenText k count ends sizes = cond (seenAt count k) (T.Set (keptPlace k ends sizes) (keptSize k sizes)) T.Unchanged

@@ -49,7 +49,7 @@ pub fn number(
             attr_lookup::place_of(ends, sizes, kind),
         ));
     }
-    table_change::Number::Keep
+    table_change::Number::Unchanged
 }
 
 // A text that a CoA sets.
@@ -57,10 +57,10 @@ pub fn text(kind: u8, count: &[u8; 256], ends: &[u16; 256], sizes: &[u8; 256]) -
     ensures { λ r. ⌜ r ≡ takenText kind (now (count .entry)) (now (ends .entry)) (now (sizes .entry)) ⌝ }
 {
     if attr_lookup::has(count, kind) {
-        return table_change::Text::Value(
+        return table_change::Text::Set(
             attr_lookup::place_of(ends, sizes, kind),
             attr_lookup::size_of(sizes, kind),
         );
     }
-    table_change::Text::Same
+    table_change::Text::Unchanged
 }

@@ -10,7 +10,7 @@ use lib.Dec.{eqb}
 use lib.IntN.{ℤ}
 use Rattle.table_slots.specs.Slot.{slotCount}
 use Rattle.table_slots.proofs.Count.{counted}
-use Rattle.table_criteria.proofs.Marked.{count-most}
+use Rattle.table_slots.proofs.Marked.{count-most}
 use Rattle.rule_causes.specs.declared.Cause as C
 use Rattle.rule_causes.specs.declared.Cause.the-variants.{SessionNotFound, NoCause}
 use Rattle.rule_verdict.specs.declared.Verdict as R

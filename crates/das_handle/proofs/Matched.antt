@@ -11,7 +11,7 @@ use Rattle.attr_survey.specs.Survey.{Kept}
 use Rattle.table_criteria.specs.declared.Criterion.{Criterion}
 use Rattle.table_slots.specs.Slot.{slotCount}
 use Rattle.table_criteria.specs.Matching.{matchesAt}
-use Rattle.table_criteria.specs.Marks.{marksAfter}
+use Rattle.table_slots.specs.Marks.{marksAfter}
 use Rattle.rule_causes.specs.declared.Cause.{Cause}
 use Rattle.packet_form.specs.Packet.{areaOf}
 use Rattle.das_reply_parts.specs.Reply.{replyLength}

@@ -9,7 +9,7 @@ use borrow.Author.Tests.{eqb-true}
 use lib.Dec.{eqb}
 use lib.IntN.{ℤ}
 use Rattle.table_slots.specs.Slot.{slotCount}
-use Rattle.table_criteria.specs.Marks.{marksAfter}
+use Rattle.table_slots.specs.Marks.{marksAfter}
 use Rattle.table_change.specs.Change.{countMarked}
 use Rattle.rule_causes.specs.declared.Cause.the-variants.{SessionNotFound, NoCause}
 use Rattle.packet_form.specs.Packet.{codeOf, areaOf}

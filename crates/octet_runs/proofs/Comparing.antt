@@ -1,5 +1,5 @@
--- The two loops that compare: one leaves at the first difference, the other gathers those of all bytes. Behind each turn the bytes not yet looked at
--- decide the first; the bytes looked at are equal exactly where the second has gathered nothing. Assumes nothing.
+-- The two loops that compare byte by byte: one leaves at the first difference, the other gathers those of all bytes. After each turn the
+-- bytes not yet looked at decide the first; the bytes looked at are equal exactly where the second has gathered nothing. Assumes nothing.
 use mathlib.Core.Path.{_≡_, refl, sym, ap, _∙_}
 use mathlib.Core.Bool.{Bool, true, false, _&&_, and-true, and-assoc}
 use mathlib.Core.List.{List, [], _∷_, _++_}
@@ -42,16 +42,16 @@ snoc (a ∷ l) [] x y h = absurd (omega arith)
 snoc (a ∷ l) (b ∷ m) x y h = ap (λ (t : Bool). eqb a b && t) (snoc l m x y (omega arith)) ∙ sym (and-assoc (eqb a b) (equalBytes l m) (eqb x y))
 
 gather : (d x y : ℕ) (s t : Bool) → eqb d 0 ≡ s → eqb x y ≡ t → eqb (bitOr d (bitXor x y)) 0 ≡ s && t
-gather d x y true true p q =
-    let e : d ≡ 0 = eqb-true d 0 p in
-    let g : bitXor x y ≡ 0 = ap (λ (z : ℕ). bitXor x z) (sym (eqb-true x y q)) ∙ xor-self x in
+gather d x y true true h k =
+    let e : d ≡ 0 = eqb-true d 0 h in
+    let g : bitXor x y ≡ 0 = ap (λ (z : ℕ). bitXor x z) (sym (eqb-true x y k)) ∙ xor-self x in
     eq-eqb (bitOr d (bitXor x y)) 0 (ap (λ (z : ℕ). bitOr z (bitXor x y)) e ∙ or-zero-l (bitXor x y) ∙ g)
-gather d x y true false p q =
+gather d x y true false h k =
     ne-eqb (bitOr d (bitXor x y)) 0
-    (λ z. eqb-false x y q (omega (arith, or-add-and d (bitXor x y), and-le-l d (bitXor x y), and-le-r d (bitXor x y), xor-add-and x y, and-le-l x y, and-le-r x y)))
-gather d x y false t p q =
+    (λ z. eqb-false x y k (omega (arith, or-add-and d (bitXor x y), and-le-l d (bitXor x y), and-le-r d (bitXor x y), xor-add-and x y, and-le-l x y, and-le-r x y)))
+gather d x y false t h k =
     ne-eqb (bitOr d (bitXor x y)) 0
-    (λ z. eqb-false d 0 p (omega (arith, or-add-and d (bitXor x y), and-le-l d (bitXor x y), and-le-r d (bitXor x y))))
+    (λ z. eqb-false d 0 h (omega (arith, or-add-and d (bitXor x y), and-le-l d (bitXor x y), and-le-r d (bitXor x y))))
 
 pub gather-none : (a b : List ℕ) (i j : ℕ) → eqb 0 0 ≡ equalBytes (part i 0 a) (part j 0 b)
 unfolding equalBytes part

@@ -7,10 +7,10 @@ use Prim.Native.Nat.{ℕ, _^_, _<_}
 use native.Mathlib.Omega.{arith}
 use borrow.Author.Tests.{eq-eqb, ne-eqb}
 use lib.ListN.{length}
-use Rattle.table_records.specs.Record.{Session}
 use Rattle.table_slots.specs.Slot.{slotCount}
 use Rattle.table_slots.proofs.Count.{counted}
-use Rattle.table_criteria.proofs.Marked.{count-most}
+use Rattle.table_slots.proofs.Marked.{count-most}
+use Rattle.table_records.specs.Record.{Session}
 use Rattle.table_sessions.specs.declared.Inserted.{Inserted}
 use Rattle.table_sessions.specs.declared.Inserted.the-variants.{Slot, NotInserted}
 use Rattle.table_sessions.specs.declared.Removed.{Removed}

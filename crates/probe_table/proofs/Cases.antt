@@ -11,9 +11,9 @@ use Rattle.table_criteria.specs.declared.Field.{Field}
 use Rattle.table_criteria.specs.declared.Field.the-variants.{UserName, NasPort, FramedAddress, CallingStation, SessionId}
 use Rattle.table_change.specs.declared.Change.the-variants.{End, Alter}
 use Rattle.table_change.specs.declared.Number.{Number}
-use Rattle.table_change.specs.declared.Number.the-variants.{Keep, Set}
+use Rattle.table_change.specs.declared.Number.the-variants as N
 use Rattle.table_change.specs.declared.Text.{Text}
-use Rattle.table_change.specs.declared.Text.the-variants.{Same, Value}
+use Rattle.table_change.specs.declared.Text.the-variants as T
 use Rattle.probe_table.specs.Given.{fieldOf, criterionAt, criteriaOf, numberOf, textOf, changeOf}
 
 -- ---- the field of a number
@@ -47,7 +47,7 @@ module _ (n : ℕ) where
 pub criterion-is : (f : Field) (x y z i : ℕ) (s : List ℕ) → f ≡ fieldOf x → x ≡ getD s i 0 → y ≡ getD s (i + 1) 0 → z ≡ getD s (i + 2) 0
     → _≡_ {A = Criterion} (record { field = f; at = y; size = z }) (criterionAt i s)
 unfolding criterionAt
-criterion-is f x y z i s e q g h = rw (e, q, g, h)
+criterion-is f x y z i s e is g h = rw (e, is, g, h)
 
 pub criteria-are : (a b c d e : Criterion) (s : List ℕ) → a ≡ criterionAt 0 s → b ≡ criterionAt 3 s → c ≡ criterionAt 6 s → d ≡ criterionAt 9 s → e ≡ criterionAt 12 s
     → _≡_ {A = Criteria} (record { count = length s / 3; list = a ∷ b ∷ c ∷ d ∷ e ∷ [] }) (criteriaOf s)
@@ -58,22 +58,22 @@ criteria-are a b c d e s g h i j k = rw (g, h, i, j, k)
 
 module _ (flag : ℕ) where
   module _ (v : ℕ) where
-    pub number-keep : flag ≡ 0 → Keep ≡ numberOf flag v
+    pub number-unchanged : flag ≡ 0 → N.Unchanged ≡ numberOf flag v
     unfolding numberOf
-    number-keep e = rw (eq-eqb _ _ e)
+    number-unchanged e = rw (eq-eqb _ _ e)
 
-    pub number-set : (flag ≡ 0 → ⊥) → Set v ≡ numberOf flag v
+    pub number-set : (flag ≡ 0 → ⊥) → N.Set v ≡ numberOf flag v
     unfolding numberOf
     number-set h = rw (ne-eqb _ _ h)
 
   module _ (at size : ℕ) where
-    pub text-same : flag ≡ 0 → Same ≡ textOf flag at size
+    pub text-unchanged : flag ≡ 0 → T.Unchanged ≡ textOf flag at size
     unfolding textOf
-    text-same e = rw (eq-eqb _ _ e)
+    text-unchanged e = rw (eq-eqb _ _ e)
 
-    pub text-value : (flag ≡ 0 → ⊥) → Value at size ≡ textOf flag at size
+    pub text-set : (flag ≡ 0 → ⊥) → T.Set at size ≡ textOf flag at size
     unfolding textOf
-    text-value h = rw (ne-eqb _ _ h)
+    text-set h = rw (ne-eqb _ _ h)
 
   -- the end, or three settings
   module _ (timed timeout idled idle filtered at size : ℕ) where

@@ -12,9 +12,9 @@ use Rattle.table_criteria.specs.declared.Field.the-variants.{UserName, NasPort,
 use Rattle.table_change.specs.declared.Change.{Change}
 use Rattle.table_change.specs.declared.Change.the-variants.{End, Alter}
 use Rattle.table_change.specs.declared.Number.{Number}
-use Rattle.table_change.specs.declared.Number.the-variants.{Keep, Set}
+use Rattle.table_change.specs.declared.Number.the-variants as N
 use Rattle.table_change.specs.declared.Text.{Text}
-use Rattle.table_change.specs.declared.Text.the-variants.{Same, Value}
+use Rattle.table_change.specs.declared.Text.the-variants as T
 
 -- the field of a number: 0 to 3 in the order of their attributes' types, any other the last
 unfoldable pub fieldOf : ℕ → Field
@@ -33,10 +33,10 @@ criteriaOf s = record {
 
 -- a setting, where its flag is not 0
 unfoldable pub numberOf : ℕ → ℕ → Number
-numberOf set v = cond (eqb set 0) Keep (Set v)
+numberOf set v = cond (eqb set 0) N.Unchanged (N.Set v)
 
 unfoldable pub textOf : ℕ → ℕ → ℕ → Text
-textOf set at size = cond (eqb set 0) Same (Value at size)
+textOf set at size = cond (eqb set 0) T.Unchanged (T.Set at size)
 
 -- the end of a session, where its flag is not 0, else the three settings
 unfoldable pub changeOf : ℕ → ℕ → ℕ → ℕ → ℕ → ℕ → ℕ → ℕ → Change

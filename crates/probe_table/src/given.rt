@@ -1,25 +1,7 @@
 // What the exports take as bytes and numbers, as the values of the table's crates.
 ghost use mathlib.Core.Path.{_≡_};
 ghost use Prim.Native.Nat.{_<_};
-ghost use lib.ListN.{getD};
 ghost use Rattle.probe_table.specs.Given.{fieldOf, criterionAt, criteriaOf, numberOf, textOf, changeOf};
-
-// A byte as a number of the machine's width.
-fn wide(x: u8) -> usize
-    ensures { λ r. ⌜ r ≡ x ⌝ }
-{
-    x as usize
-}
-
-// The byte at place i, 0 past the end.
-fn byte(s: &[u8], i: usize) -> usize
-    ensures { λ r. ⌜ r ≡ getD (now (s .entry)) i 0 ⌝ }
-{
-    if s.len() <= i {
-        return 0;
-    }
-    wide(s[i])
-}
 
 // The field of a number.
 fn field_of(n: usize) -> table_criteria::Field
@@ -46,9 +28,9 @@ fn criterion_at(s: &[u8], i: usize) -> table_criteria::Criterion
     ensures { λ r. ⌜ r ≡ criterionAt i (now (s .entry)) ⌝ }
 {
     table_criteria::Criterion {
-        field: field_of(byte(s, i)),
-        at: byte(s, i + 1),
-        size: byte(s, i + 2),
+        field: field_of(table_slots::byte(s, i)),
+        at: table_slots::byte(s, i + 1),
+        size: table_slots::byte(s, i + 2),
     }
 }
 
@@ -72,7 +54,7 @@ fn number_of(set: u32, v: u32) -> table_change::Number
     ensures { λ r. ⌜ r ≡ numberOf set v ⌝ }
 {
     if set == 0 {
-        return table_change::Number::Keep;
+        return table_change::Number::Unchanged;
     }
     table_change::Number::Set(v)
 }
@@ -82,9 +64,9 @@ fn text_of(set: u32, at: usize, size: usize) -> table_change::Text
     ensures { λ r. ⌜ r ≡ textOf set at size ⌝ }
 {
     if set == 0 {
-        return table_change::Text::Same;
+        return table_change::Text::Unchanged;
     }
-    table_change::Text::Value(at, size)
+    table_change::Text::Set(at, size)
 }
 
 // The end of a session where the flag is not 0, else what is set.

@@ -11,21 +11,21 @@ ghost use Rattle.probe_table.specs.Answers.{answer, marksRoom, insertNum
 use crate::given::change_of;
 
 // Changes every slot that is marked and live, and says how many there are.
-fn change_all(t: &mut [u8], p: &[u8], marks: &[u8], c: table_change::Change) -> u32
+fn change_all(t: &mut [u8], area: &[u8], marks: &[u8], c: table_change::Change) -> u32
     requires { ⌜ length (now marks) ≡ 64 ⌝ }
     ensures { λ r. ⌜ r ≡ countMarked (now (marks .entry)) (slotCount (now (t .entry))) (now (t .entry)) ⌝ }
-    ensures { λ _. ⌜ now (t .exit) ≡ changeMarked (now (p .entry)) c (now (marks .entry)) (slotCount (now (t .entry))) (now (t .entry)) ⌝ }
+    ensures { λ _. ⌜ now (t .exit) ≡ changeMarked (now (area .entry)) c (now (marks .entry)) (slotCount (now (t .entry))) (now (t .entry)) ⌝ }
 {
     let mut m = [0u8; 64];
     octet_copies::copy(&mut m, 0, marks);
-    table_change::change_marked(t, p, &m, c) as u32
+    table_change::change_marked(t, area, &m, c) as u32
 }
 
 // Ends or alters every slot that is marked and live; refused where there are not 64 marks.
 #[no_mangle]
 pub extern "C" fn probe_table_change(
     t: &mut [u8],
-    p: &[u8],
+    area: &[u8],
     marks: &[u8],
     end: u32,
     timed: u32,
@@ -38,14 +38,14 @@ pub extern "C" fn probe_table_change(
     count: &mut u32,
 ) -> u32
     ensures { λ r. ⌜ r ≡ answer (marksRoom (now (marks .entry))) ⌝ }
-    ensures { λ _. ⌜ now (t .exit) ≡ cond (marksRoom (now (marks .entry))) (changeMarked (now (p .entry)) (changeOf end timed timeout idled idle filtered at size) (now (marks .entry)) (slotCount (now (t .entry))) (now (t .entry))) (now (t .entry)) ⌝ }
+    ensures { λ _. ⌜ now (t .exit) ≡ cond (marksRoom (now (marks .entry))) (changeMarked (now (area .entry)) (changeOf end timed timeout idled idle filtered at size) (now (marks .entry)) (slotCount (now (t .entry))) (now (t .entry))) (now (t .entry)) ⌝ }
     ensures { λ _. ⌜ now (count .exit) ≡ cond (marksRoom (now (marks .entry))) (countMarked (now (marks .entry)) (slotCount (now (t .entry))) (now (t .entry))) (now (count .entry)) ⌝ }
 {
     if marks.len() != 64 {
         return 1;
     }
     let c = change_of(end, timed, timeout, idled, idle, filtered, at, size);
-    *count = change_all(t, p, marks, c);
+    *count = change_all(t, area, marks, c);
     0
 }
 

@@ -5,7 +5,7 @@ use Prim.Native.Nat.{ℕ, _+_, _≤_, _<_}
 use lib.ListN.{replicate}
 use Rattle.md5_ops.specs.Md5.{initial}
 use Rattle.packet_blocks.specs.Block.{blockCount}
-use Rattle.table_criteria.specs.Marks.{noMarks}
+use Rattle.table_slots.specs.Marks.{noMarks}
 use Rattle.packet_words.specs.Words.{wordsOf}
 use Rattle.sched_job.specs.declared.Job as D
 use Rattle.sched_job.specs.declared.Stage as S

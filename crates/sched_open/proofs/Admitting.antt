@@ -16,7 +16,8 @@ use Rattle.sched_state.specs.Refusals.{openRefusal}
 use Rattle.sched_state.specs.Calls.{openCalled, openStore}
 use Rattle.sched_rows.specs.Layout.{Held, held, kindRow, placeRow, secretIn, jobsIn, schedulerIn}
 use Rattle.sched_rows.specs.Left.{leftBy, openLeft}
-use Rattle.c_told.specs.Told.{numberBy, placeBy}
+use Rattle.c_numbers.specs.Numbers.{answerTold}
+use Rattle.c_told.specs.Told.{numberBy, placeBy, toldBy}
 
 module _ (f : ℕ → Bool) (j : ℕ) (store : List ℕ) (lowest : j ≡ lowestFree f) where
   pub short : (length store ≡ 16384 → ⊥) → 5 ≡ openRefusal f (length store)
@@ -67,7 +68,7 @@ module _ (ws ks ps ms : List (List ℕ)) (secret : List ℕ) (size address : ℕ
 
   module _ (some : r ≡ 0 → ⊥) where
     pub refused-number : r ≡ numberBy (openCalled (schedulerIn before) p clock store .outcome)
-    unfolding openCalled numberBy
+    unfolding openCalled numberBy toldBy answerTold
     refused-number = rw (← at-first, ne-eqb _ _ some)
 
     pub refused-left : (ws′ ks′ ps′ ms′ : List (List ℕ)) → ws′ ≡ ws → ks′ ≡ ks → ps′ ≡ ps → ms′ ≡ ms
@@ -86,7 +87,7 @@ module _ (ws ks ps ms : List (List ℕ)) (secret : List ℕ) (size address : ℕ
   module _ (none : r ≡ 0) (d : ℕ) (form : d ≡ formOf p) where
     module _ (bad : d ≡ 0 → ⊥) where
       pub discarded-number : 100 + d ≡ numberBy (openCalled (schedulerIn before) p clock store .outcome)
-      unfolding openCalled numberBy
+      unfolding openCalled numberBy toldBy answerTold
       discarded-number = rw (← at-first, eq-eqb _ _ none, ← form, ne-eqb _ _ bad)
 
       pub discarded-left : (ws′ ks′ ps′ ms′ : List (List ℕ)) → ws′ ≡ ws → ks′ ≡ ks → ps′ ≡ ps → ms′ ≡ ms
@@ -104,7 +105,7 @@ module _ (ws ks ps ms : List (List ℕ)) (secret : List ℕ) (size address : ℕ
 
     module _ (good : d ≡ 0) where
       pub opened-number : 0 ≡ numberBy (openCalled (schedulerIn before) p clock store .outcome)
-      unfolding openCalled numberBy
+      unfolding openCalled numberBy toldBy answerTold
       opened-number = rw (← at-first, eq-eqb _ _ none, ← form, eq-eqb _ _ good)
 
       pub opened-place : (old v : ℕ) → v ≡ j → v ≡ placeBy (openCalled (schedulerIn before) p clock store .outcome) old

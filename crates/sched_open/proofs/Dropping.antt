@@ -14,10 +14,11 @@ use Rattle.sched_state.specs.Refusals.{dropRefusal}
 use Rattle.sched_state.specs.Calls.{dropCalled}
 use Rattle.sched_rows.specs.Layout.{Held, held, kindRow, placeRow, secretIn, jobsIn, schedulerIn}
 use Rattle.sched_rows.specs.Left.{leftBy, dropLeft}
-use Rattle.c_told.specs.Told.{numberBy}
+use Rattle.c_numbers.specs.Numbers.{answerTold}
+use Rattle.c_told.specs.Told.{numberBy, toldBy}
 
 pub above-number : (s : Scheduler) (j : ℕ) → 3 < j → 7 ≡ numberBy (dropCalled s j .outcome)
-unfolding dropCalled dropRefusal numberBy
+unfolding dropCalled dropRefusal numberBy toldBy answerTold
 above-number s j h = rw (lt-ltb 3 j h)
 
 pub above-left : (h : Held) (j : ℕ) → 3 < j → h ≡ dropLeft h j
@@ -30,7 +31,7 @@ module _ (ws ks ps ms : List (List ℕ)) (secret : List ℕ) (size address : ℕ
   before = held ws ks ps ms secret size address name label
 
   pub free-number : b ≡ false → 7 ≡ numberBy (dropCalled (schedulerIn before) j .outcome)
-  unfolding dropCalled dropRefusal numberBy
+  unfolding dropCalled dropRefusal numberBy toldBy answerTold
   free-number h = rw (le-ltb 3 j low, ← read, ← is, h)
 
   pub free-left : b ≡ false → before ≡ dropLeft before j
@@ -38,7 +39,7 @@ module _ (ws ks ps ms : List (List ℕ)) (secret : List ℕ) (size address : ℕ
   free-left h = rw (le-ltb 3 j low, ← read, ← is, h)
 
   pub open-number : b ≡ true → 0 ≡ numberBy (dropCalled (schedulerIn before) j .outcome)
-  unfolding dropCalled dropRefusal numberBy
+  unfolding dropCalled dropRefusal numberBy toldBy answerTold
   open-number h = rw (le-ltb 3 j low, ← read, ← is, h)
 
   pub open-left : b ≡ true → (ws′ ks′ ps′ ms′ : List (List ℕ)) (x : Job) → x ≡ freeJob

@@ -5,7 +5,7 @@ use mathlib.Core.List.{List, [], _∷_}
 use Prim.Native.Nat.{ℕ}
 use lib.Dec.{eqb}
 use lib.ListN.{getD, set}
-use Rattle.table_criteria.specs.Marks.{noMarks}
+use Rattle.table_slots.specs.Marks.{noMarks}
 use Rattle.table_records.specs.Record.{Session}
 use Rattle.nas_settings.specs.Settings.{Settings}
 use Rattle.packet_form.specs.Packet.{lengthOf}

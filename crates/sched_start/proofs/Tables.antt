@@ -19,12 +19,13 @@ use Rattle.sched_state.specs.declared.Scheduler.{Scheduler}
 use Rattle.sched_state.specs.Calls.{startCalled, endCalled}
 use Rattle.sched_rows.specs.Layout.{Held, held}
 use Rattle.sched_rows.specs.Left.{restartPlaces, restartMarks, leftBy, startLeft, endLeft}
-use Rattle.c_told.specs.Told.{numberBy, placeBy}
+use Rattle.c_numbers.specs.Numbers.{answerTold}
+use Rattle.c_told.specs.Told.{numberBy, placeBy, toldBy}
 
 module _ (x : Session) (t : List ℕ) (r : Inserted) (is : r ≡ insertAnswer x t) where
   module _ (k : ℕ) (slot : r ≡ Slot k) where
     pub start-number : (s : Scheduler) → 0 ≡ numberBy (startCalled s x t .outcome)
-    unfolding startCalled numberBy
+    unfolding startCalled numberBy toldBy answerTold
     start-number s = rw (← is, slot)
 
     pub start-slot : (s : Scheduler) (old v : ℕ) → v ≡ k → v ≡ placeBy (startCalled s x t .outcome) old
@@ -36,7 +37,7 @@ module _ (x : Session) (t : List ℕ) (r : Inserted) (is : r ≡ insertAnswer x 
 
   module _ (n : ℕ) (refused : r ≡ NotInserted n) where
     pub start-refused : (s : Scheduler) → n ≡ numberBy (startCalled s x t .outcome)
-    unfolding startCalled numberBy
+    unfolding startCalled numberBy toldBy answerTold
     start-refused s = rw (← is, refused)
 
     pub start-kept : (h : Held) → h ≡ startLeft h x t
@@ -49,12 +50,12 @@ module _ (x : Session) (t : List ℕ) (r : Inserted) (is : r ≡ insertAnswer x 
 
 module _ (k : ℕ) (t : List ℕ) (r : Removed) (is : r ≡ removeAnswer k t) where
   pub end-number : r ≡ Gone → (s : Scheduler) → 0 ≡ numberBy (endCalled s k t .outcome)
-  unfolding endCalled numberBy
+  unfolding endCalled numberBy toldBy answerTold
   end-number gone s = rw (← is, gone)
 
   module _ (n : ℕ) (refused : r ≡ NotRemoved n) where
     pub end-refused : (s : Scheduler) → n ≡ numberBy (endCalled s k t .outcome)
-    unfolding endCalled numberBy
+    unfolding endCalled numberBy toldBy answerTold
     end-refused s = rw (← is, refused)
 
     pub end-kept : (h : Held) → h ≡ endLeft h k t

@@ -22,7 +22,8 @@ use Rattle.sched_state.specs.Refusals.{stepRefusal}
 use Rattle.sched_state.specs.Calls.{isAck, steppedAs, movedOf, stepCalled, stepTable, stepReply}
 use Rattle.sched_rows.specs.Layout.{Held, held, kindRow, placeRow, secretIn, nameIn, jobsIn, schedulerIn}
 use Rattle.sched_rows.specs.Left.{putJob, restartPlaces, restartMarks, restartHeld, leftBy, stepLeft}
-use Rattle.c_told.specs.Told.{Told, told, toldBy, outcomeOf}
+use Rattle.c_numbers.specs.Numbers.{Told, told, answerTold}
+use Rattle.c_told.specs.Told.{toldBy, outcomeOf}
 use Rattle.sched_step.specs.Moved.{rowsMoved, placesAfter, marksAfter}
 
 -- ---- refused
@@ -33,7 +34,7 @@ module _ (ws ks ps ms : List (List ℕ)) (secret : List ℕ) (size address : ℕ
   given = held ws ks ps ms secret size address name label
 
   pub refused-told : (c l : ℕ) (k : ℤ) (s : ℕ) → told n c l k s ≡ toldBy (stepCalled (schedulerIn given) j t b store .outcome) (told 0 c l k s)
-  unfolding stepCalled toldBy
+  unfolding stepCalled toldBy answerTold
   refused-told c l k s = rw (← ez, ← is, ne-eqb _ _ some)
 
   pub refused-left : (ws′ ks′ ps′ ms′ : List (List ℕ)) → ws′ ≡ ws → ks′ ≡ ks → ps′ ≡ ps → ms′ ≡ ms

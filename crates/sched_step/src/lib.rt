@@ -9,7 +9,8 @@ ghost use Rattle.sched_state.specs.Refusals.{stepRefusal};
 ghost use Rattle.sched_state.specs.Calls.{stepCalled, stepTable, stepReply};
 ghost use Rattle.sched_rows.specs.Layout.{held, jobsIn, schedulerIn};
 ghost use Rattle.sched_rows.specs.Left.{stepLeft};
-ghost use Rattle.c_told.specs.Told.{told, toldBy};
+ghost use Rattle.c_numbers.specs.Numbers.{told};
+ghost use Rattle.c_told.specs.Told.{toldBy};
 
 // R1, R4, R5, R7, the lowest that applies; 0 where none does.
 fn refusal(

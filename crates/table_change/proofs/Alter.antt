@@ -16,25 +16,25 @@ use Rattle.table_records.specs.Record.{textField}
 use Rattle.table_records.proofs.Fields.{length-textField}
 use Rattle.table_change.specs.declared.Alteration.{Alteration}
 use Rattle.table_change.specs.declared.Number.{Number}
-use Rattle.table_change.specs.declared.Number.the-variants.{Keep, Set}
+use Rattle.table_change.specs.declared.Number.the-variants as N
 use Rattle.table_change.specs.declared.Text.{Text}
-use Rattle.table_change.specs.declared.Text.the-variants.{Same, Value}
+use Rattle.table_change.specs.declared.Text.the-variants as T
 use Rattle.table_change.specs.Change.{setNumber, setText, altered}
 
 pub length-setNumber : (x : Number) (i : ℕ) (s : List ℕ) → length (setNumber x i s) ≡ length s
 unfolding setNumber
-length-setNumber Keep i s = refl
-length-setNumber (Set v) i s = length-write s i (beBytes 4 v)
+length-setNumber N.Unchanged i s = refl
+length-setNumber (N.Set v) i s = length-write s i (beBytes 4 v)
 
-pub length-setText : (p : List ℕ) (x : Text) (i : ℕ) (s : List ℕ) → length (setText p x i s) ≡ length s
+pub length-setText : (area : List ℕ) (x : Text) (i : ℕ) (s : List ℕ) → length (setText area x i s) ≡ length s
 unfolding setText
-length-setText p Same i s = refl
-length-setText p (Value at size) i s = length-write s i (textField 32 (part at size p))
+length-setText area T.Unchanged i s = refl
+length-setText area (T.Set at size) i s = length-write s i (textField 32 (part at size area))
 
-pub length-altered : (p : List ℕ) (a : Alteration) (s : List ℕ) → length (altered p a s) ≡ length s
+pub length-altered : (area : List ℕ) (a : Alteration) (s : List ℕ) → length (altered area a s) ≡ length s
 unfolding altered
-length-altered p a s =
-    length-setText p (a .filter) 148 (setNumber (a .idle) 14 (setNumber (a .timeout) 10 s))
+length-altered area a s =
+    length-setText area (a .filter) 148 (setNumber (a .idle) 14 (setNumber (a .timeout) 10 s))
     ∙ length-setNumber (a .idle) 14 (setNumber (a .timeout) 10 s)
     ∙ length-setNumber (a .timeout) 10 s
 
@@ -42,22 +42,22 @@ length-altered p a s =
 module _ (t s : List ℕ) (m i : ℕ) where
   number-in : (x : Number) → i + 4 ≤ length s → setNumber x (m + i) (write t m s) ≡ write t m (setNumber x i s)
   unfolding setNumber
-  number-in Keep h = refl
-  number-in (Set v) h = write-in t s m i (beBytes 4 v) (rw length-beBytes h)
+  number-in N.Unchanged h = refl
+  number-in (N.Set v) h = write-in t s m i (beBytes 4 v) (rw length-beBytes h)
 
-  text-in : (p : List ℕ) (x : Text) → i + 33 ≤ length s → setText p x (m + i) (write t m s) ≡ write t m (setText p x i s)
+  text-in : (area : List ℕ) (x : Text) → i + 33 ≤ length s → setText area x (m + i) (write t m s) ≡ write t m (setText area x i s)
   unfolding setText
-  text-in p Same h = refl
-  text-in p (Value at size) h = write-in t s m i (textField 32 (part at size p)) (rw length-textField h)
+  text-in area T.Unchanged h = refl
+  text-in area (T.Set at size) h = write-in t s m i (textField 32 (part at size area)) (rw length-textField h)
 
 -- the three fields written in the table, one after the other
-pub altered-in : (p t t₁ t₂ t₃ : List ℕ) (a : Alteration) (k : ℕ) → (k + 1) * 192 ≤ length t
+pub altered-in : (area t t₁ t₂ t₃ : List ℕ) (a : Alteration) (k : ℕ) → (k + 1) * 192 ≤ length t
     → t₁ ≡ setNumber (a .timeout) (k * 192 + 10) t
     → t₂ ≡ setNumber (a .idle) (k * 192 + 14) t₁
-    → t₃ ≡ setText p (a .filter) (k * 192 + 148) t₂
-    → t₃ ≡ write t (k * 192) (altered p a (slot k t))
+    → t₃ ≡ setText area (a .filter) (k * 192 + 148) t₂
+    → t₃ ≡ write t (k * 192) (altered area a (slot k t))
 unfolding altered
-altered-in p t t₁ t₂ t₃ a k h e₁ e₂ e₃ =
+altered-in area t t₁ t₂ t₃ a k h e₁ e₂ e₃ =
     let s : List ℕ = slot k t in
     let s₁ : List ℕ = setNumber (a .timeout) 10 s in
     let s₂ : List ℕ = setNumber (a .idle) 14 s₁ in
@@ -66,4 +66,4 @@ altered-in p t t₁ t₂ t₃ a k h e₁ e₂ e₃ =
     let l₂ : length s₂ ≡ 192 = length-setNumber (a .idle) 14 s₁ ∙ l₁ in
     let w₁ : t₁ ≡ write t (k * 192) s₁ = e₁ ∙ ap (setNumber (a .timeout) (k * 192 + 10)) (slot-same t k h) ∙ number-in t s (k * 192) 10 (a .timeout) (omega arith) in
     let w₂ : t₂ ≡ write t (k * 192) s₂ = e₂ ∙ ap (setNumber (a .idle) (k * 192 + 14)) w₁ ∙ number-in t s₁ (k * 192) 14 (a .idle) (omega arith) in
-    e₃ ∙ ap (setText p (a .filter) (k * 192 + 148)) w₂ ∙ text-in t s₂ (k * 192) 148 p (a .filter) (omega arith)
+    e₃ ∙ ap (setText area (a .filter) (k * 192 + 148)) w₂ ∙ text-in t s₂ (k * 192) 148 area (a .filter) (omega arith)

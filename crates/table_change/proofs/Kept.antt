@@ -1,4 +1,5 @@
--- What an alteration keeps: bytes 0 to 9, 18 to 147 and 181 to 191 are beside all that it writes. So a live slot stays live, with every field that a criterion can name.
+-- What an alteration keeps: bytes 0 to 9, 18 to 147 and 181 to 191 are beside all that it writes.
+-- So a live slot stays live, with every field that a criterion can name.
 -- Assumes nothing.
 use mathlib.Core.Path.{_≡_, refl, sym, ap, _∙_}
 use mathlib.Core.Bool.{Bool, true}
@@ -24,9 +25,9 @@ use Rattle.table_records.proofs.Fields.{length-textField}
 use Rattle.table_records.proofs.Texts.{field-written, head-there}
 use Rattle.table_change.specs.declared.Alteration.{Alteration}
 use Rattle.table_change.specs.declared.Number.{Number}
-use Rattle.table_change.specs.declared.Number.the-variants.{Keep, Set}
+use Rattle.table_change.specs.declared.Number.the-variants as N
 use Rattle.table_change.specs.declared.Text.{Text}
-use Rattle.table_change.specs.declared.Text.the-variants.{Same, Value}
+use Rattle.table_change.specs.declared.Text.the-variants as T
 use Rattle.table_change.specs.Change.{setNumber, setText, altered}
 use Rattle.table_change.proofs.Alter.{length-setNumber}
 
@@ -42,56 +43,56 @@ same-byte l m j e = first l ∙ ap (λ (u : List ℕ). getD u 0 0) e ∙ sym (fi
 module _ (m n i : ℕ) (s : List ℕ) where
   pub part-number : (x : Number) → ((m + n ≤ i) ⊎ (i + 4 ≤ m)) → part m n (setNumber x i s) ≡ part m n s
   unfolding setNumber
-  part-number Keep o = refl
-  part-number (Set v) o =
+  part-number N.Unchanged o = refl
+  part-number (N.Set v) o =
       ⊎-elim (λ h. part-before s i (beBytes 4 v) m n h) (λ h. part-after s i (beBytes 4 v) m n (rw length-beBytes h)) o
 
-  pub part-text : (p : List ℕ) (x : Text) → ((m + n ≤ i) ⊎ (i + 33 ≤ m)) → part m n (setText p x i s) ≡ part m n s
+  pub part-text : (area : List ℕ) (x : Text) → ((m + n ≤ i) ⊎ (i + 33 ≤ m)) → part m n (setText area x i s) ≡ part m n s
   unfolding setText
-  part-text p Same o = refl
-  part-text p (Value at size) o =
-      let v : List ℕ = textField 32 (part at size p) in
+  part-text area T.Unchanged o = refl
+  part-text area (T.Set at size) o =
+      let v : List ℕ = textField 32 (part at size area) in
       ⊎-elim (λ h. part-before s i v m n h) (λ h. part-after s i v m n (rw length-textField h)) o
 
 -- ---- a part beside all three
 
-module _ (p : List ℕ) (a : Alteration) (s : List ℕ) where
-  beside : (m n : ℕ) → ((m + n ≤ 10) ⊎ (18 ≤ m)) → ((m + n ≤ 148) ⊎ (181 ≤ m)) → part m n (altered p a s) ≡ part m n s
+module _ (area : List ℕ) (a : Alteration) (s : List ℕ) where
+  beside : (m n : ℕ) → ((m + n ≤ 10) ⊎ (18 ≤ m)) → ((m + n ≤ 148) ⊎ (181 ≤ m)) → part m n (altered area a s) ≡ part m n s
   unfolding altered
-  beside m n o q =
+  beside m n o o′ =
       let s₁ : List ℕ = setNumber (a .timeout) 10 s in
       let s₂ : List ℕ = setNumber (a .idle) 14 s₁ in
-      part-text m n 148 s₂ p (a .filter) q
+      part-text m n 148 s₂ area (a .filter) o′
       ∙ part-number m n 14 s₁ (a .idle) (⊎-elim (λ h. inl (omega arith)) (λ h. inr (omega arith)) o)
       ∙ part-number m n 10 s (a .timeout) (⊎-elim (λ h. inl h) (λ h. inr (omega arith)) o)
 
-  pub part-low : (m n : ℕ) → m + n ≤ 10 → part m n (altered p a s) ≡ part m n s
+  pub part-low : (m n : ℕ) → m + n ≤ 10 → part m n (altered area a s) ≡ part m n s
   part-low m n h = beside m n (inl h) (inl (omega arith))
 
-  pub part-middle : (m n : ℕ) → 18 ≤ m → m + n ≤ 148 → part m n (altered p a s) ≡ part m n s
+  pub part-middle : (m n : ℕ) → 18 ≤ m → m + n ≤ 148 → part m n (altered area a s) ≡ part m n s
   part-middle m n h g = beside m n (inr h) (inl g)
 
-  pub part-high : (m n : ℕ) → 181 ≤ m → part m n (altered p a s) ≡ part m n s
+  pub part-high : (m n : ℕ) → 181 ≤ m → part m n (altered area a s) ≡ part m n s
   part-high m n h = beside m n (inr (omega arith)) (inr h)
 
-  byte-by : (j : ℕ) → part j 1 (altered p a s) ≡ part j 1 s → getD (altered p a s) j 0 ≡ getD s j 0
-  byte-by j e = same-byte (altered p a s) s j e
+  byte-by : (j : ℕ) → part j 1 (altered area a s) ≡ part j 1 s → getD (altered area a s) j 0 ≡ getD s j 0
+  byte-by j e = same-byte (altered area a s) s j e
 
   -- bytes 181 to 191
-  pub rest-kept : (j : ℕ) → 181 ≤ j → getD (altered p a s) j 0 ≡ getD s j 0
+  pub rest-kept : (j : ℕ) → 181 ≤ j → getD (altered area a s) j 0 ≡ getD s j 0
   rest-kept j h = byte-by j (part-high j 1 h)
 
-  middle-byte : (j : ℕ) → 18 ≤ j → j < 148 → getD (altered p a s) j 0 ≡ getD s j 0
+  middle-byte : (j : ℕ) → 18 ≤ j → j < 148 → getD (altered area a s) j 0 ≡ getD s j 0
   middle-byte j h g = byte-by j (part-middle j 1 h (omega arith))
 
-  text-by : (i : ℕ) → 18 ≤ i → i + 1 + getD s i 0 ≤ 148 → text i (altered p a s) ≡ text i s
+  text-by : (i : ℕ) → 18 ≤ i → i + 1 + getD s i 0 ≤ 148 → text i (altered area a s) ≡ text i s
   unfolding text
   text-by i h g = rw (middle-byte i h (omega arith)) (part-middle (i + 1) (getD s i 0) (omega arith) g)
 
   -- ---- a live slot
 
   module _ (l : live s ≡ true) where
-    pub field-kept : (f : Field) → fieldBytes f (altered p a s) ≡ fieldBytes f s
+    pub field-kept : (f : Field) → fieldBytes f (altered area a s) ≡ fieldBytes f s
     unfolding fieldBytes
     field-kept UserName = text-by 18 (omega arith) (omega (arith, live-user s l))
     field-kept NasPort = part-low 2 4 (omega arith)
@@ -99,22 +100,22 @@ module _ (p : List ℕ) (a : Alteration) (s : List ℕ) where
     field-kept CallingStation = text-by 115 (omega arith) (omega (arith, live-station s l))
     field-kept SessionId = text-by 82 (omega arith) (omega (arith, live-id s l))
 
-    filter-by : (x : Text) (u : List ℕ) → within 0 32 (getD u 148 0) ≡ true → 181 ≤ length u → within 0 32 (getD (setText p x 148 u) 148 0) ≡ true
+    filter-by : (x : Text) (u : List ℕ) → within 0 32 (getD u 148 0) ≡ true → 181 ≤ length u → within 0 32 (getD (setText area x 148 u) 148 0) ≡ true
     unfolding setText
-    filter-by Same u h g = h
-    filter-by (Value at size) u h g =
-        let v : List ℕ = part at size p in
+    filter-by T.Unchanged u h g = h
+    filter-by (T.Set at size) u h g =
+        let v : List ℕ = part at size area in
         let m : length (take 32 v) ≤ 32 = rw length-take (omega arith) in
         rw (head-there (write u 148 (textField 32 v)) 148 32 v (field-written u 148 32 v (omega arith))) (within-is 0 32 (length (take 32 v)) (omega arith) m)
 
-    pub live-altered : 181 ≤ length s → live (altered p a s) ≡ true
+    pub live-altered : 181 ≤ length s → live (altered area a s) ≡ true
     unfolding altered
     live-altered g =
         let s₁ : List ℕ = setNumber (a .timeout) 10 s in
         let s₂ : List ℕ = setNumber (a .idle) 14 s₁ in
         let long : length s₂ ≡ length s = length-setNumber (a .idle) 14 s₁ ∙ length-setNumber (a .timeout) 10 s in
         let b : getD s₂ 148 0 ≡ getD s 148 0 = same-byte s₂ s 148 (part-number 148 1 14 s₁ (a .idle) (inr (omega arith)) ∙ part-number 148 1 10 s (a .timeout) (inr (omega arith))) in
-        live-by s (altered p a s) (byte-by 0 (part-low 0 1 (omega arith))) (byte-by 1 (part-low 1 1 (omega arith))) (middle-byte 18 (omega arith) (omega arith)) (middle-byte 82 (omega arith) (omega arith)) (middle-byte 115 (omega arith) (omega arith))
+        live-by s (altered area a s) (byte-by 0 (part-low 0 1 (omega arith))) (byte-by 1 (part-low 1 1 (omega arith))) (middle-byte 18 (omega arith) (omega arith)) (middle-byte 82 (omega arith) (omega arith)) (middle-byte 115 (omega arith) (omega arith))
         (filter-by (a .filter) s₂ (rw b (live-filter s l)) (rw long g) ∙ sym (live-filter s l))
         ∙ l
 
@@ -124,10 +125,10 @@ module _ (p : List ℕ) (a : Alteration) (s : List ℕ) where
     all-by f g [] e = refl
     all-by f g (c ∷ cs) e = rw (e c, all-by f g cs e)
 
-    meets-kept : (q : List ℕ) (c : Criterion) → meets q (altered p a s) c ≡ meets q s c
+    meets-kept : (other : List ℕ) (c : Criterion) → meets other (altered area a s) c ≡ meets other s c
     unfolding meets
-    meets-kept q c = rw (field-kept (c .field))
+    meets-kept other c = rw (field-kept (c .field))
 
-    pub matches-kept : (q : List ℕ) (cs : List Criterion) → 181 ≤ length s → matches q cs (altered p a s) ≡ matches q cs s
+    pub matches-kept : (other : List ℕ) (cs : List Criterion) → 181 ≤ length s → matches other cs (altered area a s) ≡ matches other cs s
     unfolding matches
-    matches-kept q cs g = rw (live-altered g, l) (all-by (meets q (altered p a s)) (meets q s) cs (meets-kept q))
+    matches-kept other cs g = rw (live-altered g, l) (all-by (meets other (altered area a s)) (meets other s) cs (meets-kept other))

@@ -10,23 +10,23 @@ pub fn set_number(t: &mut [u8], at: usize, x: super::Number)
     ensures { λ _. ⌜ now (t .exit) ≡ setNumber x at (now (t .entry)) ⌝ }
 {
     match x {
-        super::Number::Keep => {}
+        super::Number::Unchanged => {}
         super::Number::Set(v) => octet_numbers::put_be32(t, at, v),
     }
 }
 
-// Writes a text of the request p where the request names it.
-pub fn set_text(t: &mut [u8], at: usize, p: &[u8], x: super::Text)
+// Writes a text of the area of the request's attributes, where the request names it.
+pub fn set_text(t: &mut [u8], at: usize, area: &[u8], x: super::Text)
     requires { ⌜ at + 33 ≤ length (now t) ⌝ }
-    ensures { λ _. ⌜ now (t .exit) ≡ setText (now (p .entry)) x at (now (t .entry)) ⌝ }
+    ensures { λ _. ⌜ now (t .exit) ≡ setText (now (area .entry)) x at (now (t .entry)) ⌝ }
 {
     match x {
-        super::Text::Same => {}
-        super::Text::Value(place, size) => table_records::put_text(
+        super::Text::Unchanged => {}
+        super::Text::Set(place, size) => table_records::put_text(
             t,
             at,
             32,
-            octet_runs::slice(p, place, size),
+            octet_runs::slice(area, place, size),
         ),
     }
 }

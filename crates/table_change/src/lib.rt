@@ -10,14 +10,14 @@ ghost use Rattle.table_change.specs.Change.{altered, changeAt, marked, c
 
 // A number that a CoA sets, or not.
 pub enum Number {
-    Keep,
+    Unchanged,
     Set(u32),
 }
 
-// A text that a CoA sets, size bytes from place at on of the request, or not.
+// A text that a CoA sets, by its place in the request's attributes and its length, or not.
 pub enum Text {
-    Same,
-    Value(usize, usize),
+    Unchanged,
+    Set(usize, usize),
 }
 
 // What a CoA alters.
@@ -34,9 +34,9 @@ pub enum Change {
 }
 
 // Alters slot k.
-fn alter_slot(t: &mut [u8], k: usize, p: &[u8], a: Alteration)
+fn alter_slot(t: &mut [u8], k: usize, area: &[u8], a: Alteration)
     requires { ⌜ (k + 1) * 192 ≤ length (now t) ⌝ }
-    ensures { λ _. ⌜ now (t .exit) ≡ write (now (t .entry)) (k * 192) (altered (now (p .entry)) a (slot k (now (t .entry)))) ⌝ }
+    ensures { λ _. ⌜ now (t .exit) ≡ write (now (t .entry)) (k * 192) (altered (now (area .entry)) a (slot k (now (t .entry)))) ⌝ }
 {
     let timeout = a.timeout;
     let idle = a.idle;
@@ -44,7 +44,7 @@ fn alter_slot(t: &mut [u8], k: usize, p: &[u8], a: Alteration)
     let at = k * 192;
     fields::set_number(&mut *t, at + 10, timeout);
     fields::set_number(&mut *t, at + 14, idle);
-    fields::set_text(t, at + 148, p, filter);
+    fields::set_text(t, at + 148, area, filter);
 }
 
 // Ends slot k: all its bytes are zero.
@@ -56,13 +56,13 @@ pub fn end_slot(t: &mut [u8], k: usize)
 }
 
 // Ends or alters slot k.
-fn change_slot(t: &mut [u8], k: usize, p: &[u8], c: Change)
+fn change_slot(t: &mut [u8], k: usize, area: &[u8], c: Change)
     requires { ⌜ (k + 1) * 192 ≤ length (now t) ⌝ }
-    ensures { λ _. ⌜ now (t .exit) ≡ changeAt (now (p .entry)) c k (now (t .entry)) ⌝ }
+    ensures { λ _. ⌜ now (t .exit) ≡ changeAt (now (area .entry)) c k (now (t .entry)) ⌝ }
 {
     match c {
         Change::End => end_slot(t, k),
-        Change::Alter(a) => alter_slot(t, k, p, a),
+        Change::Alter(a) => alter_slot(t, k, area, a),
     }
 }
 
@@ -78,16 +78,16 @@ fn is_marked(t: &[u8], marks: &[u8; 64], k: usize) -> bool
 }
 
 // Changes every slot that is marked and live, and says how many there are.
-pub fn change_marked(t: &mut [u8], p: &[u8], marks: &[u8; 64], c: Change) -> usize
+pub fn change_marked(t: &mut [u8], area: &[u8], marks: &[u8; 64], c: Change) -> usize
     ensures { λ r. ⌜ r ≡ countMarked (now (marks .entry)) (slotCount (now (t .entry))) (now (t .entry)) ⌝ }
-    ensures { λ _. ⌜ now (t .exit) ≡ changeMarked (now (p .entry)) c (now (marks .entry)) (slotCount (now (t .entry))) (now (t .entry)) ⌝ }
+    ensures { λ _. ⌜ now (t .exit) ≡ changeMarked (now (area .entry)) c (now (marks .entry)) (slotCount (now (t .entry))) (now (t .entry)) ⌝ }
 {
     let n = table_slots::slot_count(t);
     let mut count = 0;
     let mut k = 0;
     while k < n {
         if is_marked(t, marks, k) {
-            change_slot(&mut *t, k, p, c);
+            change_slot(&mut *t, k, area, c);
             count += 1;
         }
         k += 1;

@@ -53,6 +53,7 @@ module _ (f : Field) where
   unfolding place
   place-id e = rw e
 
-pub meets-is : (p s a b : List ℕ) (c : Criterion) (r : Bool) → r ≡ equalBytes a b → a ≡ part (c .at) (c .size) p → b ≡ fieldBytes (c .field) s → r ≡ meets p s c
+pub meets-is : (area s a b : List ℕ) (c : Criterion) (r : Bool) → r ≡ equalBytes a b → a ≡ part (c .at) (c .size) area
+    → b ≡ fieldBytes (c .field) s → r ≡ meets area s c
 unfolding meets
-meets-is p s a b c r e g h = rw (← g, ← h) e
+meets-is area s a b c r e g h = rw (← g, ← h) e

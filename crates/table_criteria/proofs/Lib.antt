@@ -1,5 +1,3 @@
 pub mod Fields
-pub mod Words
 pub mod Walk
 pub mod Whole
-pub mod Marked

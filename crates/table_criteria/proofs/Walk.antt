@@ -27,13 +27,13 @@ module _ (c : Criteria) (long : length (c .list) ≡ 5) where
   pub listed-count : c .count ≤ 5 → c .count ≡ length (listed c)
   listed-count h = rw length-take (omega arith)
 
--- the answer before the walk: s is slot k, and r whether it opens with the mark
-module _ (p t s : List ℕ) (c : Criteria) (k : ℕ) (here : s ≡ slot k t) where
-  pub walk-free : (r : Bool) → r ≡ eqb (getD s 0 0) 0x5A && eqb (getD s 1 0) 0x4C → not r ≡ true → false ≡ matchesAt p (listed c) t k
+-- the answer before the walk: s is slot k, and r whether it opens with the record's mark
+module _ (area t s : List ℕ) (c : Criteria) (k : ℕ) (here : s ≡ slot k t) where
+  pub walk-free : (r : Bool) → r ≡ eqb (getD s 0 0) 0x5A && eqb (getD s 1 0) 0x4C → not r ≡ true → false ≡ matchesAt area (listed c) t k
   unfolding matches
   walk-free r e h = rw (← here, ← (free-mark s r e h))
 
-  pub walk-starts : matchesAt p (listed c) t k ≡ live s && all (meets p s) (listed c)
+  pub walk-starts : matchesAt area (listed c) t k ≡ live s && all (meets area s) (listed c)
   unfolding matches
   walk-starts = rw (← here)
 
@@ -44,31 +44,35 @@ step f c i d h =
     rw (add-one, drop-cons (listed c) i d h, getD-take (c .count) (c .list) i d g)
 
 -- n criteria, of which those from i on are left; b is the whole answer
-module _ (p s : List ℕ) (c : Criteria) (b : Bool) (i n : ℕ) (left : b ≡ live s && all (meets p s) (drop i (listed c))) (long : n ≡ length (listed c)) where
+module _
+    (area s : List ℕ) (c : Criteria) (b : Bool) (i n : ℕ)
+    (left : b ≡ live s && all (meets area s) (drop i (listed c))) (long : n ≡ length (listed c)) where
   -- all are met: r, whether the slot is live, decides
   pub walk-ends : (r : Bool) → r ≡ live s → n ≤ i → r ≡ b
   walk-ends r e h = e ∙ sym (left ∙ rw (drop-of-length-le (listed c) {i = i} (rw (← long) h)) (and-true (live s)))
 
   -- r is the answer of criterion i
-  module _ (r : Bool) (d : Criterion) (e : r ≡ meets p s (getD (c .list) i d)) (h : i < n) where
+  module _ (r : Bool) (d : Criterion) (e : r ≡ meets area s (getD (c .list) i d)) (h : i < n) where
     pub walk-fails : not r ≡ true → false ≡ b
-    walk-fails g = sym (left ∙ rw (step (meets p s) c i d (rw (← long) h), refused r _ e g) (and-false (live s)))
+    walk-fails g = sym (left ∙ rw (step (meets area s) c i d (rw (← long) h), refused r _ e g) (and-false (live s)))
 
-    pub walk-next : not r ≡ false → b ≡ live s && all (meets p s) (drop (i + 1) (listed c))
-    walk-next g = left ∙ rw (step (meets p s) c i d (rw (← long) h), passed r _ e g)
+    pub walk-next : not r ≡ false → b ≡ live s && all (meets area s) (drop (i + 1) (listed c))
+    walk-next g = left ∙ rw (step (meets area s) c i d (rw (← long) h), passed r _ e g)
 
--- ---- the walk that asks whether every value lies in the request p
+-- ---- the walk that asks whether every value lies in the area
 
-module _ (p : List ℕ) (c : Criteria) (i n : ℕ) (left : all (inside p) (listed c) ≡ all (inside p) (drop i (listed c))) (long : n ≡ length (listed c)) where
-  pub inside-ends : n ≤ i → true ≡ all (inside p) (listed c)
+module _
+    (area : List ℕ) (c : Criteria) (i n : ℕ)
+    (left : all (inside area) (listed c) ≡ all (inside area) (drop i (listed c))) (long : n ≡ length (listed c)) where
+  pub inside-ends : n ≤ i → true ≡ all (inside area) (listed c)
   inside-ends h = sym (left ∙ rw (drop-of-length-le (listed c) {i = i} (rw (← long) h)))
 
-  module _ (r : Bool) (d : Criterion) (e : r ≡ inside p (getD (c .list) i d)) (h : i < n) where
-    pub inside-fails : not r ≡ true → false ≡ all (inside p) (listed c)
-    inside-fails g = sym (left ∙ rw (step (inside p) c i d (rw (← long) h), refused r _ e g))
+  module _ (r : Bool) (d : Criterion) (e : r ≡ inside area (getD (c .list) i d)) (h : i < n) where
+    pub inside-fails : not r ≡ true → false ≡ all (inside area) (listed c)
+    inside-fails g = sym (left ∙ rw (step (inside area) c i d (rw (← long) h), refused r _ e g))
 
-    pub inside-next : not r ≡ false → all (inside p) (listed c) ≡ all (inside p) (drop (i + 1) (listed c))
-    inside-next g = left ∙ rw (step (inside p) c i d (rw (← long) h), passed r _ e g)
+    pub inside-next : not r ≡ false → all (inside area) (listed c) ≡ all (inside area) (drop (i + 1) (listed c))
+    inside-next g = left ∙ rw (step (inside area) c i d (rw (← long) h), passed r _ e g)
 
 all-at : (f : Criterion → Bool) (l : List Criterion) (i : ℕ) (d : Criterion) → i < length l → all f l ≡ true → f (getD l i d) ≡ true
 all-at f [] i d h e = absurd (omega arith)
@@ -76,9 +80,10 @@ all-at f (x ∷ l) zero d h e = and-both (f x) (all f l) e .0
 all-at f (x ∷ l) (suc i) d h e = all-at f l i d (omega arith) (and-both (f x) (all f l) e .1)
 
 -- what it found of criterion i
-pub inside-at : (p : List ℕ) (c : Criteria) (i n : ℕ) (d : Criterion) (r : Bool) → r ≡ all (inside p) (listed c) → n ≡ length (listed c) → i < n → r ≡ true
-    → inside p (getD (c .list) i d) ≡ true
-inside-at p c i n d r e long h g =
+pub inside-at : (area : List ℕ) (c : Criteria) (i n : ℕ) (d : Criterion) (r : Bool) → r ≡ all (inside area) (listed c) → n ≡ length (listed c)
+    → i < n → r ≡ true
+    → inside area (getD (c .list) i d) ≡ true
+inside-at area c i n d r e long h g =
     let l : i < length (listed c) = rw (← long) h in
     let m : i < c .count = omega (arith, length-take (c .count) (c .list)) in
-    rw (getD-take (c .count) (c .list) i d m) at (all-at (inside p) (listed c) i d l (sym e ∙ g))
+    rw (getD-take (c .count) (c .list) i d m) at (all-at (inside area) (listed c) i d l (sym e ∙ g))

@@ -1,4 +1,4 @@
--- A criterion whose value lies in the request, compared with a whole slot: other lengths decide at once, and four bytes are compared as a number.
+-- A criterion whose value lies in the area, compared with a whole slot: other lengths decide at once, and four bytes are compared as a number.
 -- Assumes nothing.
 use mathlib.Core.Path.{_≡_, refl, sym, ap, _∙_}
 use mathlib.Core.Bool.{Bool, true, false}
@@ -10,87 +10,85 @@ use mir.Syntax.{w8}
 use mir.Val.{Fits}
 use lib.Dec.{eqb, leb}
 use lib.ListN.{length, getD, take, drop, length-take, length-drop}
-use lib.Seq.{ext-getD}
 use Rattle.octet_numbers.specs.Numbers.{be}
 use Rattle.octet_numbers.specs.Runs.{part, equalBytes}
 use Rattle.octet_numbers.proofs.Equality.{and-both, equal-false, equal-length, equal-refl}
 use Rattle.octet_numbers.proofs.Numbers.{be-same}
 use Rattle.octet_numbers.proofs.Part.{length-part, byte-part, part-of}
+use Rattle.octet_runs.proofs.Words.{same-part}
 use Rattle.table_slots.specs.Slot.{text}
 use Rattle.table_criteria.specs.declared.Criterion.{Criterion}
 use Rattle.table_criteria.specs.declared.Field.{Field}
 use Rattle.table_criteria.specs.declared.Field.the-variants.{UserName, NasPort, FramedAddress, CallingStation, SessionId}
 use Rattle.table_criteria.specs.Matching.{fieldBytes, inside, meets, place}
-use Rattle.table_criteria.proofs.Words.{digits}
 
 -- ---- where the value lies
 
-module _ (p : List ℕ) (c : Criterion) where
-  pub lies-past : length p < c .at → false ≡ inside p c
+module _ (area : List ℕ) (c : Criterion) where
+  pub lies-past : length area < c .at → false ≡ inside area c
   unfolding inside
-  lies-past h = rw (lt-leb (c .at + c .size) (length p) (omega arith))
+  lies-past h = rw (lt-leb (c .at + c .size) (length area) (omega arith))
 
-  pub lies-over : c .at ≤ length p → length p - c .at < c .size → false ≡ inside p c
+  pub lies-over : c .at ≤ length area → length area - c .at < c .size → false ≡ inside area c
   unfolding inside
-  lies-over h g = rw (lt-leb (c .at + c .size) (length p) (omega arith))
+  lies-over h g = rw (lt-leb (c .at + c .size) (length area) (omega arith))
 
-  pub lies-short : c .at ≤ length p → c .size ≤ length p - c .at → leb (c .size) 63 ≡ inside p c
+  pub lies-short : c .at ≤ length area → c .size ≤ length area - c .at → leb (c .size) 63 ≡ inside area c
   unfolding inside
-  lies-short h g = rw (le-leb (c .at + c .size) (length p) (omega arith))
+  lies-short h g = rw (le-leb (c .at + c .size) (length area) (omega arith))
 
-  pub inside-fits : inside p c ≡ true → c .at + c .size ≤ length p
+  pub inside-fits : inside area c ≡ true → c .at + c .size ≤ length area
   unfolding inside
   inside-fits h = leb-true _ _ (and-both _ _ h .0)
 
-  pub inside-short : inside p c ≡ true → c .size ≤ 63
+  pub inside-short : inside area c ≡ true → c .size ≤ 63
   unfolding inside
-  inside-short h = leb-true _ _ (and-both (leb (c .at + c .size) (length p)) (leb (c .size) 63) h .1)
+  inside-short h = leb-true _ _ (and-both (leb (c .at + c .size) (length area)) (leb (c .size) 63) h .1)
 
 -- ---- texts
 
 -- a text of a whole slot has its length, or more than 63 bytes
 length-text : (s : List ℕ) (i n : ℕ) → length s ≡ 192 → i ≤ 115 → (getD s i 0 ≡ n → ⊥) → n ≤ 63 → length (text i s) ≡ n → ⊥
 unfolding text part
-length-text s i n h l d m e = let q = simp (length-take, length-drop) at e in d (omega arith)
+length-text s i n h l d m e = let z = simp (length-take, length-drop) at e in d (omega arith)
 
-module _ (p : List ℕ) (at size : ℕ) (s : List ℕ) (i : ℕ) (fits : at + size ≤ length p) (short : size ≤ 63) (long : length s ≡ 192) (low : i ≤ 115) where
-  pub text-other : (n : ℕ) → n ≡ getD s i 0 → (n ≡ size → ⊥) → false ≡ equalBytes (part at size p) (text i s)
+module _
+    (area : List ℕ) (at size : ℕ) (s : List ℕ) (i : ℕ)
+    (fits : at + size ≤ length area) (short : size ≤ 63) (long : length s ≡ 192) (low : i ≤ 115) where
+  pub text-other : (n : ℕ) → n ≡ getD s i 0 → (n ≡ size → ⊥) → false ≡ equalBytes (part at size area) (text i s)
   text-other n g d =
-      let la : length (part at size p) ≡ size = length-part at size p fits in
-      sym (equal-length (part at size p) (text i s) (λ q. length-text s i size long low (λ z. d (g ∙ z)) short (sym q ∙ la)))
+      let la : length (part at size area) ≡ size = length-part at size area fits in
+      sym (equal-length (part at size area) (text i s) (λ same. length-text s i size long low (λ z. d (g ∙ z)) short (sym same ∙ la)))
 
-pub text-compared : (p : List ℕ) (at size : ℕ) (s : List ℕ) (i n : ℕ) (r : Bool) → r ≡ equalBytes (take (at + size - at) (drop at p)) (take (i + 1 + size - (i + 1)) (drop (i + 1) s)) → n ≡ getD s i 0 → n ≡ size
-    → r ≡ equalBytes (part at size p) (text i s)
+pub text-compared : (area : List ℕ) (at size : ℕ) (s : List ℕ) (i n : ℕ) (r : Bool)
+    → r ≡ equalBytes (take (at + size - at) (drop at area)) (take (i + 1 + size - (i + 1)) (drop (i + 1) s)) → n ≡ getD s i 0 → n ≡ size
+    → r ≡ equalBytes (part at size area) (text i s)
 unfolding text
-text-compared p at size s i n r e g h = rw (← g, h, ← (part-of at size p), ← (part-of (i + 1) size s)) e
+text-compared area at size s i n r e g h = rw (← g, h, ← (part-of at size area), ← (part-of (i + 1) size s)) e
 
 -- ---- numbers
 
-module _ (p : List ℕ) (at size : ℕ) (s : List ℕ) (i : ℕ) (fits : at + size ≤ length p) (room : i + 4 ≤ length s) where
-  pub number-other : (size ≡ 4 → ⊥) → false ≡ equalBytes (part at size p) (part i 4 s)
+module _ (area : List ℕ) (at size : ℕ) (s : List ℕ) (i : ℕ) (fits : at + size ≤ length area) (room : i + 4 ≤ length s) where
+  pub number-other : (size ≡ 4 → ⊥) → false ≡ equalBytes (part at size area) (part i 4 s)
   number-other n =
-      let la : length (part at size p) ≡ size = length-part at size p fits in
+      let la : length (part at size area) ≡ size = length-part at size area fits in
       let lb : length (part i 4 s) ≡ 4 = length-part i 4 s room in
-      sym (equal-length (part at size p) (part i 4 s) (λ q. n (sym la ∙ q ∙ lb)))
+      sym (equal-length (part at size area) (part i 4 s) (λ same. n (sym la ∙ same ∙ lb)))
 
-module _ (p : List ℕ) (at : ℕ) (s : List ℕ) (i : ℕ) (fits : at + 4 ≤ length p) (room : i + 4 ≤ length s) (fp : (k : ℕ) → Fits w8 (getD p k 0)) (fs : (k : ℕ) → Fits w8 (getD s k 0)) where
-  same-four : be at 4 p ≡ be i 4 s → part at 4 p ≡ part i 4 s
-  same-four e =
-      let la : length (part at 4 p) ≡ 4 = length-part at 4 p fits in
-      let lb : length (part i 4 s) ≡ 4 = length-part i 4 s room in
-      ext-getD 0 (part at 4 p) (part i 4 s) (la ∙ sym lb)
-      (λ k g. let l : k < 4 = rw la at g in byte-part at 4 p k l ∙ digits p s at i 4 fp fs e k l ∙ sym (byte-part i 4 s k l))
-
-  number-by : (b : Bool) → eqb (be at 4 p) (be i 4 s) ≡ b → b ≡ equalBytes (part at 4 p) (part i 4 s)
-  number-by true e = sym (rw (same-four (eqb-true _ _ e)) (equal-refl (part i 4 s)))
+module _
+    (area : List ℕ) (at : ℕ) (s : List ℕ) (i : ℕ) (fits : at + 4 ≤ length area) (room : i + 4 ≤ length s)
+    (fa : (k : ℕ) → Fits w8 (getD area k 0)) (fs : (k : ℕ) → Fits w8 (getD s k 0)) where
+  number-by : (b : Bool) → eqb (be at 4 area) (be i 4 s) ≡ b → b ≡ equalBytes (part at 4 area) (part i 4 s)
+  number-by true e = sym (rw (same-part area s at i 4 fits room fa fs (eqb-true _ _ e)) (equal-refl (part i 4 s)))
   number-by false e =
-      sym (equal-false (part at 4 p) (part i 4 s)
-      (λ q. eqb-false _ _ e (be-same 4 p s at i (λ k l. sym (byte-part at 4 p k l) ∙ ap (λ (u : List ℕ). getD u k 0) q ∙ byte-part i 4 s k l))))
+      sym (equal-false (part at 4 area) (part i 4 s)
+      (λ same. eqb-false _ _ e (be-same 4 area s at i (λ k l. sym (byte-part at 4 area k l) ∙ ap (λ (u : List ℕ). getD u k 0) same ∙ byte-part i 4 s k l))))
 
-pub number-compared : (p : List ℕ) (at size : ℕ) (s : List ℕ) (i x y : ℕ) → size ≡ 4 → at + size ≤ length p → i + 4 ≤ length s → x ≡ be at 4 p → y ≡ be i 4 s
-    → ((k : ℕ) → Fits w8 (getD p k 0)) → ((k : ℕ) → Fits w8 (getD s k 0)) → eqb x y ≡ equalBytes (part at size p) (part i 4 s)
-number-compared p at size s i x y e fits room ex ey fp fs =
-    rw (ex, ey, e) (number-by p at s i (rw e at fits) room fp fs (eqb (be at 4 p) (be i 4 s)) refl)
+pub number-compared : (area : List ℕ) (at size : ℕ) (s : List ℕ) (i x y : ℕ) → size ≡ 4 → at + size ≤ length area → i + 4 ≤ length s
+    → x ≡ be at 4 area → y ≡ be i 4 s
+    → ((k : ℕ) → Fits w8 (getD area k 0)) → ((k : ℕ) → Fits w8 (getD s k 0)) → eqb x y ≡ equalBytes (part at size area) (part i 4 s)
+number-compared area at size s i x y e fits room ex ey fa fs =
+    rw (ex, ey, e) (number-by area at s i (rw e at fits) room fa fs (eqb (be at 4 area) (be i 4 s)) refl)
 
 -- ---- the field that is named
 
@@ -118,11 +116,11 @@ text-field FramedAddress s h = absurd (omega arith)
 text-field CallingStation s h = refl
 text-field SessionId s h = refl
 
-module _ (p s : List ℕ) (c : Criterion) (r : Bool) (i : ℕ) (e : i ≡ place (c .field)) where
-  pub meets-number : i < 18 → r ≡ equalBytes (part (c .at) (c .size) p) (part i 4 s) → r ≡ meets p s c
+module _ (area s : List ℕ) (c : Criterion) (r : Bool) (i : ℕ) (e : i ≡ place (c .field)) where
+  pub meets-number : i < 18 → r ≡ equalBytes (part (c .at) (c .size) area) (part i 4 s) → r ≡ meets area s c
   unfolding meets
   meets-number h g = rw (number-field (c .field) s (rw (← e) h), ← e) g
 
-  pub meets-text : 18 ≤ i → r ≡ equalBytes (part (c .at) (c .size) p) (text i s) → r ≡ meets p s c
+  pub meets-text : 18 ≤ i → r ≡ equalBytes (part (c .at) (c .size) area) (text i s) → r ≡ meets area s c
   unfolding meets
   meets-text h g = rw (text-field (c .field) s (rw (← e) h), ← e) g

@@ -1,4 +1,4 @@
-// The criteria of a request, each compared with the field that it names.
+// The criteria of a request, each compared with the field that it names. The area is that of the request's attributes.
 ghost use mathlib.Core.Path.{_≡_};
 ghost use mathlib.Core.Bool.{true};
 ghost use Prim.Native.Nat.{_+_, _≤_};
@@ -18,23 +18,6 @@ pub fn number_of(c: super::Criteria) -> usize
     n
 }
 
-// Whether a and b are the same bytes, four at a time. It returns at the first difference.
-fn alike(a: &[u8], b: &[u8]) -> bool
-    ensures { λ r. ⌜ r ≡ equalBytes (now (a .entry)) (now (b .entry)) ⌝ }
-{
-    if a.len() != b.len() {
-        return false;
-    }
-    let mut i = 0;
-    while 4 <= a.len() - i {
-        if octet_numbers::be32(a, i) != octet_numbers::be32(b, i) {
-            return false;
-        }
-        i += 4;
-    }
-    octet_runs::equal(&a[i..], &b[i..])
-}
-
 // The bytes of a field.
 fn field_of(s: &[u8], f: super::Field) -> &[u8]
     ensures { λ r. ⌜ now r ≡ fieldBytes f (now (s .entry)) ⌝ }
@@ -48,40 +31,40 @@ fn field_of(s: &[u8], f: super::Field) -> &[u8]
     }
 }
 
-// Whether the slot s meets the criterion c of the request p.
-pub fn meets_one(p: &[u8], s: &[u8], c: super::Criterion) -> bool
-    ensures { λ r. ⌜ r ≡ meets (now (p .entry)) (now (s .entry)) c ⌝ }
+// Whether the slot s meets the criterion c.
+pub fn meets_one(area: &[u8], s: &[u8], c: super::Criterion) -> bool
+    ensures { λ r. ⌜ r ≡ meets (now (area .entry)) (now (s .entry)) c ⌝ }
 {
     let at = c.at;
     let size = c.size;
     let field = c.field;
-    alike(octet_runs::slice(p, at, size), field_of(s, field))
+    octet_runs::equal(octet_runs::slice(area, at, size), field_of(s, field))
 }
 
-// Whether the value asked for lies in the request p as a whole, and is no longer than a text can be.
-fn lies_in(p: &[u8], c: super::Criterion) -> bool
-    ensures { λ r. ⌜ r ≡ inside (now (p .entry)) c ⌝ }
+// Whether the value asked for lies in the area as a whole, and is no longer than a text can be.
+fn lies_in(area: &[u8], c: super::Criterion) -> bool
+    ensures { λ r. ⌜ r ≡ inside (now (area .entry)) c ⌝ }
 {
     let at = c.at;
     let size = c.size;
-    if p.len() < at {
+    if area.len() < at {
         return false;
     }
-    if p.len() - at < size {
+    if area.len() - at < size {
         return false;
     }
     size <= 63
 }
 
-// Whether the values of all n criteria lie in the request p as a whole.
-pub fn all_inside(p: &[u8], c: super::Criteria, n: usize) -> bool
+// Whether the values of all n criteria lie in the area as a whole.
+pub fn all_inside(area: &[u8], c: super::Criteria, n: usize) -> bool
     requires { ⌜ (n ≡ length (listed c)) × (n ≤ 5) ⌝ }
-    ensures { λ r. ⌜ r ≡ all (inside (now (p .entry))) (listed c) ⌝ }
+    ensures { λ r. ⌜ r ≡ all (inside (now (area .entry))) (listed c) ⌝ }
 {
     let mut i = 0;
     while i < n {
         let one = c.list[i];
-        if !lies_in(p, one) {
+        if !lies_in(area, one) {
             return false;
         }
         i += 1;
@@ -102,50 +85,50 @@ fn place_of(f: super::Field) -> usize
     }
 }
 
-// Whether size bytes of p from place at on are the text of the slot s whose length stands at place i. The lengths are compared first.
-fn text_is(p: &[u8], at: usize, size: usize, s: &[u8], i: usize) -> bool
-    requires { ⌜ (at + size ≤ length (now p)) × (size ≤ 63) × (length (now s) ≡ 192) × (i ≤ 115) ⌝ }
-    ensures { λ r. ⌜ r ≡ equalBytes (part at size (now (p .entry))) (text i (now (s .entry))) ⌝ }
+// Whether size bytes of the area from place at on are the text of the slot s whose length stands at place i. The lengths are compared first.
+fn text_is(area: &[u8], at: usize, size: usize, s: &[u8], i: usize) -> bool
+    requires { ⌜ (at + size ≤ length (now area)) × (size ≤ 63) × (length (now s) ≡ 192) × (i ≤ 115) ⌝ }
+    ensures { λ r. ⌜ r ≡ equalBytes (part at size (now (area .entry))) (text i (now (s .entry))) ⌝ }
 {
     if table_slots::byte(s, i) != size {
         return false;
     }
-    alike(&p[at..at + size], &s[i + 1..i + 1 + size])
+    octet_runs::equal(&area[at..at + size], &s[i + 1..i + 1 + size])
 }
 
-// Whether size bytes of p from place at on are the four bytes of s from place i on.
-fn number_is(p: &[u8], at: usize, size: usize, s: &[u8], i: usize) -> bool
-    requires { ⌜ (at + size ≤ length (now p)) × (i + 4 ≤ length (now s)) ⌝ }
-    ensures { λ r. ⌜ r ≡ equalBytes (part at size (now (p .entry))) (part i 4 (now (s .entry))) ⌝ }
+// Whether size bytes of the area from place at on are the four bytes of s from place i on.
+fn number_is(area: &[u8], at: usize, size: usize, s: &[u8], i: usize) -> bool
+    requires { ⌜ (at + size ≤ length (now area)) × (i + 4 ≤ length (now s)) ⌝ }
+    ensures { λ r. ⌜ r ≡ equalBytes (part at size (now (area .entry))) (part i 4 (now (s .entry))) ⌝ }
 {
     if size != 4 {
         return false;
     }
-    octet_numbers::be32(p, at) == octet_numbers::be32(s, i)
+    octet_numbers::be32(area, at) == octet_numbers::be32(s, i)
 }
 
-// Whether the whole slot s meets the criterion c, whose value lies in the request p.
-fn meets_whole(p: &[u8], s: &[u8], c: super::Criterion) -> bool
-    requires { ⌜ (inside (now p) c ≡ true) × (length (now s) ≡ 192) ⌝ }
-    ensures { λ r. ⌜ r ≡ meets (now (p .entry)) (now (s .entry)) c ⌝ }
+// Whether the whole slot s meets the criterion c, whose value lies in the area.
+fn meets_whole(area: &[u8], s: &[u8], c: super::Criterion) -> bool
+    requires { ⌜ (inside (now area) c ≡ true) × (length (now s) ≡ 192) ⌝ }
+    ensures { λ r. ⌜ r ≡ meets (now (area .entry)) (now (s .entry)) c ⌝ }
 {
     let at = c.at;
     let size = c.size;
     let field = c.field;
     let i = place_of(field);
     if i < 18 {
-        return number_is(p, at, size, s, i);
+        return number_is(area, at, size, s, i);
     }
-    text_is(p, at, size, s, i)
+    text_is(area, at, size, s, i)
 }
 
-// The same, where known says whether the value lies in p.
-pub fn meets_known(p: &[u8], s: &[u8], c: super::Criterion, known: bool) -> bool
-    requires { ⌜ ((known ≡ true → inside (now p) c ≡ true)) × (length (now s) ≡ 192) ⌝ }
-    ensures { λ r. ⌜ r ≡ meets (now (p .entry)) (now (s .entry)) c ⌝ }
+// Whether the whole slot s meets the criterion c, where known says that its value lies in the area.
+pub fn meets_known(area: &[u8], s: &[u8], c: super::Criterion, known: bool) -> bool
+    requires { ⌜ ((known ≡ true → inside (now area) c ≡ true)) × (length (now s) ≡ 192) ⌝ }
+    ensures { λ r. ⌜ r ≡ meets (now (area .entry)) (now (s .entry)) c ⌝ }
 {
     if known {
-        return meets_whole(p, s, c);
+        return meets_whole(area, s, c);
     }
-    meets_one(p, s, c)
+    meets_one(area, s, c)
 }

@@ -10,7 +10,7 @@ pub enum Field {
     SessionId,
 }
 
-// A field and the value that it must have: size bytes from place at on of the request.
+// A field and the value that it must have: size bytes from place at on of the request's attributes.
 pub struct Criterion {
     pub field: Field,
     pub at: usize,

@@ -1,14 +1,14 @@
 // Which slots a request names: whether one of them matches, and the marks of all.
 ghost use mathlib.Core.Path.{_≡_};
 ghost use Rattle.table_slots.specs.Slot.{slotCount};
+ghost use Rattle.table_slots.specs.Marks.{marksAfter};
 ghost use Rattle.table_criteria.specs.Matching.{listed, matchesAt};
-ghost use Rattle.table_criteria.specs.Marks.{marksAfter};
 use table_criteria::Criteria;
 use table_criteria::compare;
 
 // Whether slot k is live and meets every criterion. The lengths are looked at last: most slots fail before.
-pub fn match_slot(t: &[u8], k: usize, p: &[u8], c: Criteria) -> bool
-    ensures { λ r. ⌜ r ≡ matchesAt (now (p .entry)) (listed c) (now (t .entry)) k ⌝ }
+pub fn match_slot(t: &[u8], k: usize, area: &[u8], c: Criteria) -> bool
+    ensures { λ r. ⌜ r ≡ matchesAt (now (area .entry)) (listed c) (now (t .entry)) k ⌝ }
 {
     let s = table_slots::slot_of(t, k);
     if !table_slots::has_mark(s) {
@@ -18,7 +18,7 @@ pub fn match_slot(t: &[u8], k: usize, p: &[u8], c: Criteria) -> bool
     let mut i = 0;
     while i < n {
         let one = c.list[i];
-        if !compare::meets_one(p, s, one) {
+        if !compare::meets_one(area, s, one) {
             return false;
         }
         i += 1;
@@ -27,12 +27,12 @@ pub fn match_slot(t: &[u8], k: usize, p: &[u8], c: Criteria) -> bool
 }
 
 // The marks of all slots: 1 for each that is live and meets every criterion.
-pub fn mark_all(t: &[u8], p: &[u8], c: Criteria) -> [u8; 64]
-    ensures { λ r. ⌜ r ≡ marksAfter (matchesAt (now (p .entry)) (listed c) (now (t .entry))) (slotCount (now (t .entry))) ⌝ }
+pub fn mark_all(t: &[u8], area: &[u8], c: Criteria) -> [u8; 64]
+    ensures { λ r. ⌜ r ≡ marksAfter (matchesAt (now (area .entry)) (listed c) (now (t .entry))) (slotCount (now (t .entry))) ⌝ }
 {
     let slots = table_slots::slot_count(t);
     let n = compare::number_of(c);
-    let known = compare::all_inside(p, c, n);
+    let known = compare::all_inside(area, c, n);
     let mut marks = [0u8; 64];
     let mut k = 0;
     while k < slots {
@@ -44,7 +44,7 @@ pub fn mark_all(t: &[u8], p: &[u8], c: Criteria) -> [u8; 64]
             let mut i = 0;
             while i < n {
                 let one = c.list[i];
-                if !compare::meets_known(p, s, one, known) {
+                if !compare::meets_known(area, s, one, known) {
                     break 'slot;
                 }
                 i += 1;

@@ -1,4 +1,4 @@
--- The record of a session, written in pieces one after the other; and the limits of its texts, tried one after the other.
+-- The record of a session, written in pieces one after the other; and the limits of its texts, tried in turn.
 -- Assumes nothing.
 use mathlib.Core.Path.{_≡_, sym, ap, _∙_}
 use mathlib.Core.Bool.{Bool, true, false, not, _&&_}

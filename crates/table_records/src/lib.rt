@@ -45,7 +45,7 @@ pub fn fits_record(user: &[u8], id: &[u8], station: &[u8], filter: &[u8]) -> boo
     table_slots::in_range(0, 32, filter.len())
 }
 
-// Writes the mark.
+// Writes the record's mark.
 fn put_mark(t: &mut [u8], at: usize)
     requires { ⌜ at + 2 ≤ length (now t) ⌝ }
     ensures { λ _. ⌜ now (t .exit) ≡ write (now (t .entry)) at (0x5A ∷ 0x4C ∷ []) ⌝ }
@@ -54,7 +54,7 @@ fn put_mark(t: &mut [u8], at: usize)
     t[at + 1] = 0x4C;
 }
 
-// Writes the mark and the four numbers, 18 bytes.
+// Writes the record's mark and the four numbers, 18 bytes.
 fn put_numbers(t: &mut [u8], at: usize, port: u32, address: u32, timeout: u32, idle: u32)
     requires { ⌜ at + 18 ≤ length (now t) ⌝ }
     ensures { λ _. ⌜ now (t .exit) ≡ write (now (t .entry)) at ((0x5A ∷ 0x4C ∷ []) ++ beBytes 4 port ++ beBytes 4 address ++ beBytes 4 timeout ++ beBytes 4 idle) ⌝ }

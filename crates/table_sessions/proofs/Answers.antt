@@ -34,19 +34,19 @@ module _ (x : Session) (t : List ℕ) (n : ℕ) (e : n ≡ slotCount t) where
         not-is : not f ≡ true → f ≡ false
         not-is g = refused f f refl g
 
-    module _ (i : Bool) (q : i ≡ idLive (x .id) t n) (fit : not f ≡ false) where
+    module _ (i : Bool) (is : i ≡ idLive (x .id) t n) (fit : not f ≡ false) where
       pub insert-live : i ≡ true → NotInserted 9 ≡ insertAnswer x t
       unfolding insertAnswer
-      insert-live h = rw (← e, ne-eqb n 0 some, ← fits-is, passed f f refl fit, ← q, h)
+      insert-live h = rw (← e, ne-eqb n 0 some, ← fits-is, passed f f refl fit, ← is, h)
 
       module _ (k : ℕ) (g : k ≡ freeFrom t 0 n) (new : i ≡ false) where
         pub insert-full : k ≡ n → NotInserted 10 ≡ insertAnswer x t
         unfolding insertAnswer
-        insert-full h = rw (← e, ne-eqb n 0 some, ← fits-is, passed f f refl fit, ← q, new, ← g, eq-eqb k n h)
+        insert-full h = rw (← e, ne-eqb n 0 some, ← fits-is, passed f f refl fit, ← is, new, ← g, eq-eqb k n h)
 
         pub insert-slot : (k ≡ n → ⊥) → Slot k ≡ insertAnswer x t
         unfolding insertAnswer
-        insert-slot h = rw (← e, ne-eqb n 0 some, ← fits-is, passed f f refl fit, ← q, new, ← g, ne-eqb k n h)
+        insert-slot h = rw (← e, ne-eqb n 0 some, ← fits-is, passed f f refl fit, ← is, new, ← g, ne-eqb k n h)
 
 -- the table after it, which a refusal leaves
 pub insert-kept : (x : Session) (t : List ℕ) (m : ℕ) → NotInserted m ≡ insertAnswer x t → (NotInserted m ≡ insertAnswer x t) × (t ≡ insertTable x t)
@@ -69,14 +69,14 @@ module _ (k : ℕ) (t : List ℕ) (n : ℕ) (e : n ≡ slotCount t) where
     unfolding removeAnswer
     remove-beyond h = rw (← e, ne-eqb n 0 some, le-ltb k n h)
 
-    module _ (r : Bool) (q : r ≡ live (slot k t)) (h : k < n) where
+    module _ (r : Bool) (is : r ≡ live (slot k t)) (h : k < n) where
       pub remove-free : not r ≡ true → NotRemoved 11 ≡ removeAnswer k t
       unfolding removeAnswer
-      remove-free g = rw (← e, ne-eqb n 0 some, lt-ltb k n h, refused r _ q g)
+      remove-free g = rw (← e, ne-eqb n 0 some, lt-ltb k n h, refused r _ is g)
 
       pub remove-gone : not r ≡ false → Gone ≡ removeAnswer k t
       unfolding removeAnswer
-      remove-gone g = rw (← e, ne-eqb n 0 some, lt-ltb k n h, passed r _ q g)
+      remove-gone g = rw (← e, ne-eqb n 0 some, lt-ltb k n h, passed r _ is g)
 
 -- the table after it, which a refusal leaves
 pub remove-kept : (k : ℕ) (t : List ℕ) (m : ℕ) → NotRemoved m ≡ removeAnswer k t → (NotRemoved m ≡ removeAnswer k t) × (t ≡ removeTable k t)

@@ -20,10 +20,10 @@ pub record Ended (k : ℕ) (t : List ℕ) : Type 0 where
 
 by-tests : (k : ℕ) (t : List ℕ) (none below lives : Bool) → ltb k (slotCount t) ≡ below → live (slot k t) ≡ lives
     → cond none (NotRemoved 1) (cond (below && lives) Gone (NotRemoved 11)) ≡ Gone → Ended k t
-by-tests k t true below lives p q e = absurd (let z : _≡_ {A = ℕ} 0 1 = cc in omega arith)
-by-tests k t false false lives p q e = absurd (let z : _≡_ {A = ℕ} 0 1 = cc in omega arith)
-by-tests k t false true false p q e = absurd (let z : _≡_ {A = ℕ} 0 1 = cc in omega arith)
-by-tests k t false true true p q e = record { inside = ltb-true _ _ p; was = q }
+by-tests k t true below lives h g e = absurd (let z : _≡_ {A = ℕ} 0 1 = cc in omega arith)
+by-tests k t false false lives h g e = absurd (let z : _≡_ {A = ℕ} 0 1 = cc in omega arith)
+by-tests k t false true false h g e = absurd (let z : _≡_ {A = ℕ} 0 1 = cc in omega arith)
+by-tests k t false true true h g e = record { inside = ltb-true _ _ h; was = g }
 
 module _ (k : ℕ) (t : List ℕ) (e : removeAnswer k t ≡ Gone) where
   pub ended : Ended k t

@@ -21,8 +21,9 @@ module _ (id t s : List ℕ) (k : ℕ) (r : Bool) (e : r ≡ live s) (here : s �
   pub id-free : not r ≡ true → false ≡ live (slot k t) && equalBytes id (sessionId (slot k t))
   id-free h = rw (← here, refused r _ e h)
 
-  pub id-compared : (v : List ℕ) (q : Bool) → not r ≡ false → v ≡ text 82 s → q ≡ equalBytes id v → q ≡ live (slot k t) && equalBytes id (sessionId (slot k t))
-  id-compared v q h g d = rw (← here, passed r _ e h, ← g) d
+  pub id-compared : (v : List ℕ) (same : Bool) → not r ≡ false → v ≡ text 82 s → same ≡ equalBytes id v
+      → same ≡ live (slot k t) && equalBytes id (sessionId (slot k t))
+  id-compared v same h g d = rw (← here, passed r _ e h, ← g) d
 
 -- ---- the walk to a live slot with this id: none of the first k is one
 
@@ -35,8 +36,8 @@ unfolding idLive
 found-by id t k zero h e = absurd (omega arith)
 found-by id t k (suc n) h e =
     ⊎-elim
-    (λ (q : k ≡ n). rw (← q, e) (or-true (idLive id t k)))
-    (λ (q : k < n). rw (found-by id t k n q e))
+    (λ (same : k ≡ n). rw (← same, e) (or-true (idLive id t k)))
+    (λ (below : k < n). rw (found-by id t k n below e))
     (eq-or-lt-of-le (le-of-suc-le-suc h))
 
 module _ (id t : List ℕ) (k n : ℕ) (r : Bool) (e : r ≡ live (slot k t) && equalBytes id (sessionId (slot k t))) where
@@ -53,18 +54,18 @@ id-absent id t k n e h g = e ∙ ap (idLive id t) (le-antisymm h g)
 -- ---- the walk to the lowest free slot: r is the whole answer, that from slot k on; b is whether slot k is live
 
 module _ (t : List ℕ) (r k n : ℕ) (e : r ≡ freeFrom t k (n - k)) where
-  module _ (b : Bool) (q : b ≡ live (slot k t)) (h : k < n) where
+  module _ (b : Bool) (is : b ≡ live (slot k t)) (h : k < n) where
     pub free-next : not b ≡ false → r ≡ freeFrom t (k + 1) (n - (k + 1))
     unfolding freeFrom
     free-next l =
         let d : n - k ≡ suc (n - (k + 1)) = omega arith in
-        e ∙ rw (d, passed b _ q l, add-one)
+        e ∙ rw (d, passed b _ is l, add-one)
 
     pub free-here : not b ≡ true → k ≡ r
     unfolding freeFrom
     free-here l =
         let d : n - k ≡ suc (n - (k + 1)) = omega arith in
-        sym (e ∙ rw (d, refused b _ q l))
+        sym (e ∙ rw (d, refused b _ is l))
 
   pub free-end : n ≤ k → k ≡ r
   unfolding freeFrom
@@ -78,7 +79,7 @@ free-start t n = ap (freeFrom t 0) (omega arith)
 -- ---- the slot found is free, and those before it are live
 
 free-by : (t : List ℕ) (b : Bool) (k a n : ℕ) → live (slot k t) ≡ b → (cond b a k ≡ k + suc n → ⊥) → ((a ≡ suc k + n → ⊥) → live (slot a t) ≡ false) → live (slot (cond b a k) t) ≡ false
-free-by t true k a n e h g = g (λ q. h (omega arith))
+free-by t true k a n e h g = g (λ same. h (omega arith))
 free-by t false k a n e h g = e
 
 pub found-free : (t : List ℕ) (k n : ℕ) → (freeFrom t k n ≡ k + n → ⊥) → live (slot (freeFrom t k n) t) ≡ false
@@ -87,7 +88,7 @@ found-free t k zero h = absurd (h (omega arith))
 found-free t k (suc n) h = free-by t (live (slot k t)) k (freeFrom t (suc k) n) n refl h (found-free t (suc k) n)
 
 lower-by : (t : List ℕ) (b : Bool) (i k a : ℕ) → live (slot k t) ≡ b → k ≤ i → i < cond b a k → (suc k ≤ i → i < a → live (slot i t) ≡ true) → live (slot i t) ≡ true
-lower-by t true i k a e h l g = ⊎-elim (λ (q : k ≡ i). rw (← q) e) (λ (q : k < i). g q l) (eq-or-lt-of-le h)
+lower-by t true i k a e h l g = ⊎-elim (λ (same : k ≡ i). rw (← same) e) (λ (above : k < i). g above l) (eq-or-lt-of-le h)
 lower-by t false i k a e h l g = absurd (omega arith)
 
 pub lower-live : (t : List ℕ) (k n i : ℕ) → k ≤ i → i < freeFrom t k n → live (slot i t) ≡ true
@@ -110,5 +111,5 @@ pub free-fits : (t : List ℕ) (k n : ℕ) → n ≡ slotCount t → k ≡ freeF
 free-fits t k n e f h =
     let c = counted-is n t e in
     let m : k ≤ n = rw f (omega (arith, free-most t 0 n)) in
-    let d : k < n = ⊎-elim (λ (q : k ≡ n). absurd (h q)) (λ (q : k < n). q) (eq-or-lt-of-le m) in
+    let d : k < n = ⊎-elim (λ (same : k ≡ n). absurd (h same)) (λ (below : k < n). below) (eq-or-lt-of-le m) in
     omega arith

@@ -26,15 +26,15 @@ pub record Started (x : Session) (t : List ℕ) (k : ℕ) : Type 0 where
 
 by-tests : (x : Session) (t : List ℕ) (k : ℕ) (none fit known full : Bool) → fitsRecord x ≡ fit → idLive (x .id) t (slotCount t) ≡ known → eqb (lowestFree t) (slotCount t) ≡ full
     → cond none (NotInserted 1) (cond (not fit) (NotInserted 8) (cond known (NotInserted 9) (cond full (NotInserted 10) (Slot (lowestFree t))))) ≡ Slot k → Started x t k
-by-tests x t k true fit known full p q r e = absurd (let z : _≡_ {A = ℕ} 0 1 = cc in omega arith)
-by-tests x t k false false known full p q r e = absurd (let z : _≡_ {A = ℕ} 0 1 = cc in omega arith)
-by-tests x t k false true true full p q r e = absurd (let z : _≡_ {A = ℕ} 0 1 = cc in omega arith)
-by-tests x t k false true false true p q r e = absurd (let z : _≡_ {A = ℕ} 0 1 = cc in omega arith)
-by-tests x t k false true false false p q r e =
+by-tests x t k true fit known full a b r e = absurd (let z : _≡_ {A = ℕ} 0 1 = cc in omega arith)
+by-tests x t k false false known full a b r e = absurd (let z : _≡_ {A = ℕ} 0 1 = cc in omega arith)
+by-tests x t k false true true full a b r e = absurd (let z : _≡_ {A = ℕ} 0 1 = cc in omega arith)
+by-tests x t k false true false true a b r e = absurd (let z : _≡_ {A = ℕ} 0 1 = cc in omega arith)
+by-tests x t k false true false false a b r e =
     let d : lowestFree t ≡ k = cc in
     record {
-      fits = p;
-      new = q;
+      fits = a;
+      new = b;
       lowest = sym d;
       free = rw (← d) (found-free t 0 (slotCount t) (λ h. eqb-false _ _ r (rw zero-add at h)));
       inside = free-fits t k (slotCount t) refl (sym d) (λ h. eqb-false _ _ r (d ∙ h));

@@ -29,9 +29,9 @@ pub record Counted (n size : ℕ) : Type 0 where
   pub fits : n * 192 ≤ size
 
 by-tests : (l : ℕ) (a b : Bool) → leb (l / 192) 64 ≡ b → Counted (cond (a && b) (l / 192) 0) l
-by-tests l true true q = let h : l / 192 ≤ 64 = leb-true _ _ q in record { most = h; fits = omega arith }
-by-tests l true false q = record { most = omega arith; fits = omega arith }
-by-tests l false b q = record { most = omega arith; fits = omega arith }
+by-tests l true true g = let h : l / 192 ≤ 64 = leb-true _ _ g in record { most = h; fits = omega arith }
+by-tests l true false g = record { most = omega arith; fits = omega arith }
+by-tests l false b g = record { most = omega arith; fits = omega arith }
 
 pub counted : (t : List ℕ) → Counted (slotCount t) (length t)
 unfolding slotCount

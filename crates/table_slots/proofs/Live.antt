@@ -59,15 +59,15 @@ free-mark s r e h = sym (both-fail (eqb (getD s 0 0) 0x5A) (eqb (getD s 1 0) 0x4
 module _ (s : List ℕ) (x : ℕ) (r : Bool) where
   pub free-user : x ≡ getD s 18 0 → r ≡ within 1 63 x → not r ≡ true → false ≡ live s
   unfolding live
-  free-user e q h = rw (← e, refused r _ q h) (simp and-false)
+  free-user e is h = rw (← e, refused r _ is h) (simp and-false)
 
   pub free-id : x ≡ getD s 82 0 → r ≡ within 1 32 x → not r ≡ true → false ≡ live s
   unfolding live
-  free-id e q h = rw (← e, refused r _ q h) (simp and-false)
+  free-id e is h = rw (← e, refused r _ is h) (simp and-false)
 
   pub free-station : x ≡ getD s 115 0 → r ≡ within 0 32 x → not r ≡ true → false ≡ live s
   unfolding live
-  free-station e q h = rw (← e, refused r _ q h) (simp and-false)
+  free-station e is h = rw (← e, refused r _ is h) (simp and-false)
 
 -- all tests but the last passed: it decides
 pub live-last : (s : List ℕ) (u i c f : ℕ) (rm ru ri rc r : Bool)

@@ -20,7 +20,7 @@ slot k t = part (k * 192) 192 t
 unfoldable pub within : ℕ → ℕ → ℕ → Bool
 within lo hi n = leb lo n && leb n hi
 
--- live exactly if mark and four lengths are as in the layout; any other content is a free slot
+-- live exactly if the record's mark and four lengths are as in the layout; any other content is a free slot
 unfoldable pub live : List ℕ → Bool
 live s =
     eqb (getD s 0 0) 0x5A

@@ -30,13 +30,6 @@ pub fn slot_of(t: &[u8], k: usize) -> &[u8]
     octet_runs::slice(t, k * 192, 192)
 }
 
-// A byte as a number of the machine's width.
-fn wide(x: u8) -> usize
-    ensures { λ r. ⌜ r ≡ x ⌝ }
-{
-    x as usize
-}
-
 // The byte at place i, 0 past the end.
 pub fn byte(s: &[u8], i: usize) -> usize
     ensures { λ r. ⌜ r ≡ getD (now (s .entry)) i 0 ⌝ }
@@ -44,7 +37,7 @@ pub fn byte(s: &[u8], i: usize) -> usize
     if s.len() <= i {
         return 0;
     }
-    wide(s[i])
+    octet_numbers::wide(s[i])
 }
 
 // Whether n is from lo to hi.
@@ -57,7 +50,7 @@ pub fn in_range(lo: usize, hi: usize, n: usize) -> bool
     n <= hi
 }
 
-// Whether the slot s opens with the mark.
+// Whether the slot s opens with the record's mark.
 pub fn has_mark(s: &[u8]) -> bool
     ensures { λ r. ⌜ r ≡ eqb (getD (now (s .entry)) 0 0) 0x5A && eqb (getD (now (s .entry)) 1 0) 0x4C ⌝ }
 {

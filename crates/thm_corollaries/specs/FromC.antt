@@ -17,7 +17,8 @@ use Rattle.sched_state.specs.Calls.{openCalled, openStore, stepCalled, stepTabl
 use Rattle.sched_state.specs.Runs.{Call, Open, Step, Drop, Start, End, Out}
 use Rattle.sched_rows.specs.Layout.{Held, heldOf, schedulerIn}
 use Rattle.sched_rows.specs.Left.{makeLeft, openLeft, stepLeft, dropLeft, startLeft, endLeft}
-use Rattle.c_told.specs.Told.{Told, numberBy, placeBy, toldBy}
+use Rattle.c_numbers.specs.Numbers.{Told}
+use Rattle.c_told.specs.Told.{numberBy, placeBy, toldBy}
 use Rattle.thm_serial.specs.Demand3.{serially}
 
 -- what a C program holds between two calls

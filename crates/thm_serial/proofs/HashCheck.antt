@@ -14,7 +14,7 @@ use Rattle.md5_ops.specs.Md5.{output}
 use Rattle.packet_auth.specs.Signing.{zeros, authenticator}
 use Rattle.packet_blocks.specs.Block.{hashed, hashedTo}
 use Rattle.packet_blocks.proofs.Stepwise.{blocks-more, blocks-all, same-hashed}
-use Rattle.table_criteria.specs.Marks.{marksAfter}
+use Rattle.table_slots.specs.Marks.{marksAfter}
 use Rattle.rule_verdict.specs.declared.Verdict as R
 use Rattle.rule_verdict.specs.declared.Verdict.the-variants as J
 use Rattle.packet_form.specs.Packet.{lengthOf, authOf}

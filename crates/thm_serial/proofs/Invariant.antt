@@ -10,7 +10,7 @@ use native.Mathlib.Decide.{ℕ-discrete}
 use native.Mathlib.Omega.{arith}
 use lib.ListN.{length, getD, set, List·getD-map}
 use lib.Seq.{getD-set-same, getD-set-other}
-use Rattle.table_criteria.specs.Marks.{marksAfter}
+use Rattle.table_slots.specs.Marks.{marksAfter}
 use Rattle.nas_settings.specs.Settings.{Settings, badSecret, badName}
 use Rattle.sched_job.specs.declared.Job as B
 use Rattle.sched_job.specs.declared.Stage as S

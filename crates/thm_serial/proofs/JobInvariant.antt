@@ -8,7 +8,7 @@ use Prim.Native.Nat.{ℕ, _+_, _≤_, _<_}
 use lib.ListN.{length}
 use Rattle.packet_blocks.specs.Block.{blockCount, hashedTo}
 use Rattle.table_slots.specs.Slot.{slotCount}
-use Rattle.table_criteria.specs.Marks.{marksAfter}
+use Rattle.table_slots.specs.Marks.{marksAfter}
 use Rattle.rule_verdict.specs.declared.Verdict.{Verdict}
 use Rattle.packet_form.specs.Packet.{lengthOf, areaOf}
 use Rattle.nas_settings.specs.Settings.{Settings}

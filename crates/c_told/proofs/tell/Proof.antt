@@ -1,7 +1,7 @@
 -- `c_told::tell` meets its contract: all four numbers are 0, or those of the answer.
 -- Assumes nothing.
 use borrow.Author.Needs.{needs}
-use Rattle.c_told.proofs.Telling.{told-going, told-done, changed-fits, length-fits}
+use Rattle.c_told.proofs.Telling.{told-going, told-done, small-done}
 use Rattle.c_told.proofs.tell.Statement.{statement}
 use Rattle.c_told.proofs.tell.Tie as tie
 
@@ -11,6 +11,6 @@ tell-spec =
     (tie.spec
     (λ c. search needs)
     (λ c. search needs)
-    (λ c κs. (search (needs, changed-fits), search (needs, length-fits)))
+    (λ c κs. search (needs, small-done))
     (λ c. search (needs, told-going))
     (λ c. search (needs, told-done)))

@@ -1,7 +1,7 @@
 -- `sched_job::first` meets its contract: the words before the first block, and no marks.
 -- Assumes nothing.
 use borrow.Author.Needs.{needs}
-use Rattle.table_criteria.specs.Marks.{noMarks}
+use Rattle.table_slots.specs.Marks.{noMarks}
 use Rattle.sched_job.proofs.first.Statement.{statement}
 use Rattle.sched_job.proofs.first.Tie as tie
 

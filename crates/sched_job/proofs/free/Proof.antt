@@ -1,7 +1,7 @@
 -- `sched_job::free` meets its contract: every field is zero.
 -- Assumes nothing.
 use mathlib.Core.Path.{refl}
-use Rattle.table_criteria.specs.Marks.{noMarks}
+use Rattle.table_slots.specs.Marks.{noMarks}
 use Rattle.sched_job.proofs.free.Statement.{statement}
 use Rattle.sched_job.proofs.free.Tie as tie
 

@@ -12,10 +12,10 @@ use Rattle.table_change.proofs.change_marked.Statement.{statement}
 use Rattle.table_change.proofs.change_marked.Tie as tie
 
 abbrev Inv-loop : tie.InvT-loop
-Inv-loop t₀ p marks c n count₀ k₀ t count k = (k ≤ n) × (count ≤ k) × Counted n (length t₀) × (count ≡ countMarked marks k t₀) × (t ≡ changeMarked p c marks k t₀)
+Inv-loop t₀ area marks c n count₀ k₀ t count k = (k ≤ n) × (count ≤ k) × Counted n (length t₀) × (count ≡ countMarked marks k t₀) × (t ≡ changeMarked area c marks k t₀)
 
 abbrev μ-loop : tie.MeasureT-loop
-μ-loop t₀ p marks c n count₀ k₀ t count k = n - k
+μ-loop t₀ area marks c n count₀ k₀ t count k = n - k
 
 loop-holds : tie.Need-loop-holds Inv-loop μ-loop
 loop-holds c = search (needs, counted-is, none-changed, none-counted)

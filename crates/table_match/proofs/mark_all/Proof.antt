@@ -7,32 +7,32 @@ use mathlib.Core.Logic.{⊎-elim}
 use lib.ListN.{length, drop}
 use Rattle.table_slots.specs.Slot.{live}
 use Rattle.table_slots.proofs.Count.{Counted, counted-is}
+use Rattle.table_slots.specs.Marks.{marksAfter}
+use Rattle.table_slots.proofs.Marked.{marks-start}
 use Rattle.table_criteria.specs.Matching.{all, listed, meets, matchesAt}
-use Rattle.table_criteria.specs.Marks.{marksAfter}
 use Rattle.table_criteria.proofs.Walk.{walk-starts, walk-next, inside-at}
-use Rattle.table_match.proofs.Marks.{marks-start}
 use Rattle.table_match.proofs.Turns.{turn-free, turn-fails, turn-dead, turn-meets, turns-end}
 use borrow.Author.Needs.{needs}
 use Rattle.table_match.proofs.mark_all.Statement.{statement}
 use Rattle.table_match.proofs.mark_all.Tie as tie
 
 abbrev Inv-loop2 : tie.InvT-loop2
-Inv-loop2 t p c slots n known marks k s i₀ i = (i ≤ n) × (matchesAt p (listed c) t k ≡ live s && all (meets p s) (drop i (listed c)))
+Inv-loop2 t area c slots n known marks k s i₀ i = (i ≤ n) × (matchesAt area (listed c) t k ≡ live s && all (meets area s) (drop i (listed c)))
 
 abbrev μ-loop2 : tie.MeasureT-loop2
-μ-loop2 t p c slots n known marks k s i₀ i = n - i
+μ-loop2 t area c slots n known marks k s i₀ i = n - i
 
 abbrev Inv-slot : tie.InvT-slot
-Inv-slot t p c slots n known marks₀ k s marks = marks ≡ marksAfter (matchesAt p (listed c) t) k
+Inv-slot t area c slots n known marks₀ k s marks = marks ≡ marksAfter (matchesAt area (listed c) t) k
 
 abbrev μ-slot : tie.MeasureT-slot
-μ-slot t p c slots n known marks₀ k s marks = 0
+μ-slot t area c slots n known marks₀ k s marks = 0
 
 abbrev Inv-loop : tie.InvT-loop
-Inv-loop t p c slots n known marks₀ k₀ marks k = (k ≤ slots) × Counted slots (length t) × (marks ≡ marksAfter (matchesAt p (listed c) t) k)
+Inv-loop t area c slots n known marks₀ k₀ marks k = (k ≤ slots) × Counted slots (length t) × (marks ≡ marksAfter (matchesAt area (listed c) t) k)
 
 abbrev μ-loop : tie.MeasureT-loop
-μ-loop t p c slots n known marks₀ k₀ marks k = slots - k
+μ-loop t area c slots n known marks₀ k₀ marks k = slots - k
 
 loop-holds : tie.Need-loop-holds Inv-loop2 μ-loop2 Inv-slot μ-slot Inv-loop μ-loop
 loop-holds c = search (needs, counted-is, marks-start)

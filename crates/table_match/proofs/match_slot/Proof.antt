@@ -12,10 +12,10 @@ use Rattle.table_match.proofs.match_slot.Statement.{statement}
 use Rattle.table_match.proofs.match_slot.Tie as tie
 
 abbrev Inv-loop : tie.InvT-loop
-Inv-loop t k p c s n i₀ i = (i ≤ n) × (n ≡ length (listed c)) × (n ≤ 5) × (matchesAt p (listed c) t k ≡ live s && all (meets p s) (drop i (listed c)))
+Inv-loop t k area c s n i₀ i = (i ≤ n) × (n ≡ length (listed c)) × (n ≤ 5) × (matchesAt area (listed c) t k ≡ live s && all (meets area s) (drop i (listed c)))
 
 abbrev μ-loop : tie.MeasureT-loop
-μ-loop t k p c s n i₀ i = n - i
+μ-loop t k area c s n i₀ i = n - i
 
 returns : tie.Need-returns Inv-loop μ-loop
 returns c = search (needs, walk-free)

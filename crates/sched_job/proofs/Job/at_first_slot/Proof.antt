@@ -1,7 +1,7 @@
 -- `Job::at_first_slot` meets its contract: 64 zeros are no marks.
 -- Assumes nothing.
 use mathlib.Core.Path.{refl}
-use Rattle.table_criteria.specs.Marks.{noMarks}
+use Rattle.table_slots.specs.Marks.{noMarks}
 use Rattle.sched_job.proofs.Job.at_first_slot.Statement.{statement}
 use Rattle.sched_job.proofs.Job.at_first_slot.Tie as tie
 

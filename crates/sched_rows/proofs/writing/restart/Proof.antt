@@ -1,7 +1,7 @@
 -- `sched_rows::writing::restart` meets its contract: a job of kind 3 has its place and marks written, any other nothing.
 -- Assumes nothing.
 use borrow.Author.Needs.{needs}
-use Rattle.table_criteria.specs.Marks.{noMarks}
+use Rattle.table_slots.specs.Marks.{noMarks}
 use Rattle.sched_rows.proofs.Restarts.{place-set, mark-set, place-not, mark-not}
 use Rattle.sched_rows.proofs.writing.restart.Statement.{statement}
 use Rattle.sched_rows.proofs.writing.restart.Tie as tie

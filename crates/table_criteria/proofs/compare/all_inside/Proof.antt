@@ -10,10 +10,10 @@ use Rattle.table_criteria.proofs.compare.all_inside.Statement.{statemen
 use Rattle.table_criteria.proofs.compare.all_inside.Tie as tie
 
 abbrev Inv-loop : tie.InvT-loop
-Inv-loop p n c i₀ i = (i ≤ n) × (all (inside p) (listed c) ≡ all (inside p) (drop i (listed c)))
+Inv-loop area n c i₀ i = (i ≤ n) × (all (inside area) (listed c) ≡ all (inside area) (drop i (listed c)))
 
 abbrev μ-loop : tie.MeasureT-loop
-μ-loop p n c i₀ i = n - i
+μ-loop area n c i₀ i = n - i
 
 returns : tie.Need-returns Inv-loop μ-loop
 returns c = search (needs, inside-fails)

@@ -1,15 +1,16 @@
--- Marks and counts, read: a mark is 1 exactly at the slots below k that f names, and a count goes by f below k alone.
+-- Marks and counts: a mark is 1 exactly at the slots below k that f names, a count goes by f below k alone, and one slot more adds at most its own.
 -- Assumes nothing.
-use mathlib.Core.Path.{_≡_, refl, _∙_}
+use mathlib.Core.Path.{_≡_, refl, ap, _∙_}
 use mathlib.Core.Bool.{Bool, true, false, cond}
 use mathlib.Core.List.{List}
 use mathlib.Core.Logic.{⊎-elim}
 use Prim.Native.Nat.{ℕ, zero, suc, _+_, _≤_, _<_}
-use native.Mathlib.Nat.{eq-or-lt-of-le, le-of-suc-le-suc}
+use native.Mathlib.Nat.{eq-or-lt-of-le, le-of-suc-le-suc, le-antisymm}
+use native.Mathlib.Numerals.{add-one}
 use native.Mathlib.Omega.{arith}
 use lib.ListN.{length, getD, set, replicate, length-set}
 use lib.Seq.{getD-set-same, getD-set-other}
-use Rattle.table_criteria.specs.Marks.{noMarks, marksAfter, countTo}
+use Rattle.table_slots.specs.Marks.{noMarks, marksAfter, countTo}
 
 module _ (f : ℕ → Bool) where
   long-by : (b : Bool) (m : List ℕ) (k : ℕ) → length (cond b (set m k 1) m) ≡ length m
@@ -75,3 +76,21 @@ pub marks-same : (f g : ℕ → Bool) (k : ℕ) → ((i : ℕ) → i < k → f i
 unfolding marksAfter
 marks-same f g zero h = refl
 marks-same f g (suc k) h = rw (h k (omega arith), marks-same f g k (λ i l. h i (omega arith)))
+
+-- ---- the walk: m is the marks after the first k slots
+
+pub marks-start : (f : ℕ → Bool) → replicate 64 0 ≡ marksAfter f 0
+unfolding noMarks marksAfter
+marks-start f = refl
+
+module _ (f : ℕ → Bool) (m : List ℕ) (k : ℕ) (e : m ≡ marksAfter f k) where
+  pub marks-skip : false ≡ f k → m ≡ marksAfter f (k + 1)
+  unfolding marksAfter
+  marks-skip h = rw (add-one, ← h) e
+
+  pub marks-more : true ≡ f k → set m k 1 ≡ marksAfter f (k + 1)
+  unfolding marksAfter
+  marks-more h = rw (add-one, ← h, e)
+
+  pub marks-all : (n : ℕ) → k ≤ n → n ≤ k → m ≡ marksAfter f n
+  marks-all n h g = e ∙ ap (marksAfter f) (le-antisymm h g)
