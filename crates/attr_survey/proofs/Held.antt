@@ -9,7 +9,7 @@ use lib.ListN.{length, length-replicate}
 use Rattle.attr_walk.specs.declared.Attribute.{Attribute}
 use Rattle.attr_walk.specs.Attributes.{any, found, kindIs}
 use Rattle.attr_survey.specs.declared.Flags.{Flags}
-use Rattle.attr_types.specs.Types.{unsupportedIn, misfitting, among, criteria, changes, firstRepeated, none}
+use Rattle.attr_types.specs.Types.{unsupportedIn, misfitting, among, namingTypes, changingTypes, firstRepeated, none}
 use Rattle.attr_survey.specs.Survey.{zeros, seenAt, endOf, sizeOf, Counted}
 use Rattle.attr_survey.specs.Turns.{noFlags}
 use Rattle.attr_types.proofs.Repeats.{same-seen}
@@ -28,8 +28,8 @@ pub record Held (code : ℕ) (w l : List Attribute) (count ends sizes : List ℕ
   pub service : Flag (kindIs 6) w l (f .service)
   pub repeated : found (firstRepeated none w) ≡ (f .repeated || found (firstRepeated (seenAt count) l))
   pub misfit : Flag misfitting w l (f .misfit)
-  pub criterion : Flag (among criteria) w l (f .criterion)
-  pub change : Flag (among changes) w l (f .change)
+  pub criterion : Flag (among namingTypes) w l (f .criterion)
+  pub change : Flag (among changingTypes) w l (f .change)
   pub number : (k : ℕ) → (k ≡ 33 → ⊥) → Number w l k count
   pub end : (k : ℕ) → (k ≡ 33 → ⊥) → First endOf w l k count ends
   pub size : (k : ℕ) → (k ≡ 33 → ⊥) → First sizeOf w l k count sizes

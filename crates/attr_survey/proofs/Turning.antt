@@ -12,7 +12,7 @@ use Rattle.attr_walk.specs.declared.Search.{Search}
 use Rattle.attr_walk.specs.declared.Search.the-variants.{At}
 use Rattle.attr_walk.specs.Attributes.{any, found, firstOf, kindIs}
 use Rattle.attr_survey.specs.declared.Flags.{Flags}
-use Rattle.attr_types.specs.Types.{unsupportedIn, misfitting, among, criteria, changes, firstRepeated, also, none}
+use Rattle.attr_types.specs.Types.{unsupportedIn, misfitting, among, namingTypes, changingTypes, firstRepeated, also, none}
 use Rattle.attr_types.specs.Classes.{classOf}
 use Rattle.attr_survey.specs.Survey.{seenAt, endOf, sizeOf}
 use Rattle.attr_survey.specs.Turns.{joinedBy, countedAt, keptAt}
@@ -53,7 +53,7 @@ module _ (code : ℕ) (w l : List Attribute) (a : Attribute) (count ends sizes :
 
     -- with flags g that the rules on one attribute give, the rest stays
     uncounted : (g : Flags) → g .tiled ≡ true → g .repeated ≡ f .repeated → Flag (unsupportedIn code) w l (g .unsupported) → Flag (kindIs 6) w l (g .service) → Flag misfitting w l (g .misfit)
-        → Flag (among criteria) w l (g .criterion) → Flag (among changes) w l (g .change) → Held code w l count ends sizes g
+        → Flag (among namingTypes) w l (g .criterion) → Flag (among changingTypes) w l (g .change) → Held code w l count ends sizes g
     uncounted g t r u v m c d =
         record {
           counts = i .counts;
@@ -80,8 +80,8 @@ module _ (code : ℕ) (w l : List Attribute) (a : Attribute) (count ends sizes :
         uncounted f (i .tiled) refl (flag-stays (unsupportedIn code) w l a (f .unsupported) (i .unsupported) (rw (e, supported-33 code)))
         (flag-stays (kindIs 6) w l a (f .service) (i .service) (rw e))
         (flag-stays misfitting w l a (f .misfit) (i .misfit) (rw e (fits-33 (a .size) n)))
-        (flag-stays (among criteria) w l a (f .criterion) (i .criterion) (rw e))
-        (flag-stays (among changes) w l a (f .change) (i .change) (rw e))
+        (flag-stays (among namingTypes) w l a (f .criterion) (i .criterion) (rw e))
+        (flag-stays (among changingTypes) w l a (f .change) (i .change) (rw e))
 
     pub turn-empty : Held code w l count ends sizes (joinedBy code (classOf (a .kind)) (a .size) false f)
     turn-empty =
@@ -89,8 +89,8 @@ module _ (code : ℕ) (w l : List Attribute) (a : Attribute) (count ends sizes :
         (flag-joins (unsupportedIn code) w l a (f .unsupported) (i .unsupported) _ (lacks-class code (a .kind)))
         (flag-joins (kindIs 6) w l a (f .service) (i .service) _ (says-service (a .kind)))
         (flag-joins misfitting w l a (f .misfit) (i .misfit) _ (misfit-class (a .kind) (a .size)))
-        (flag-joins (among criteria) w l a (f .criterion) (i .criterion) _ (says-criterion (a .kind)))
-        (flag-joins (among changes) w l a (f .change) (i .change) _ (says-change (a .kind)))
+        (flag-joins (among namingTypes) w l a (f .criterion) (i .criterion) _ (says-criterion (a .kind)))
+        (flag-joins (among changingTypes) w l a (f .change) (i .change) _ (says-change (a .kind)))
 
   pub turn-other : eqb (a .kind) 33 ≡ false → a .kind < 256
       → Held code w l (countedAt count (a .kind)) (keptAt count ends (a .kind) (a .at + a .size)) (keptAt count sizes (a .kind) (a .size))
@@ -110,8 +110,8 @@ module _ (code : ℕ) (w l : List Attribute) (a : Attribute) (count ends sizes :
             joins (found (firstRepeated none w)) (f .repeated) (not (eqb (a .kind) 33) && seenAt count (a .kind)) a (firstRepeated (also (a .kind) (seenAt count)) l) (i .repeated) _ (rw ne)
             ∙ ap (λ (x : Search). (f .repeated || seenAt count (a .kind)) || found x) (same-seen _ _ l (λ k p. also-counted count (a .kind) k hc));
         misfit = flag-joins misfitting w l a (f .misfit) (i .misfit) _ (misfit-class (a .kind) (a .size));
-        criterion = flag-joins (among criteria) w l a (f .criterion) (i .criterion) _ (says-criterion (a .kind));
-        change = flag-joins (among changes) w l a (f .change) (i .change) _ (says-change (a .kind));
+        criterion = flag-joins (among namingTypes) w l a (f .criterion) (i .criterion) _ (says-criterion (a .kind));
+        change = flag-joins (among changingTypes) w l a (f .change) (i .change) _ (says-change (a .kind));
         number = λ k p. number-turn w l a k count (i .number k p) hc;
         end = λ k p. first-turn endOf w l a (a .at + a .size) refl count ends hc he k (i .end k p);
         size = λ k p. first-turn sizeOf w l a (a .size) refl count sizes hc hs k (i .size k p);

@@ -12,7 +12,7 @@ use Rattle.attr_walk.specs.declared.Search.{Search}
 use Rattle.attr_walk.specs.declared.Search.the-variants.{At, Missing}
 use Rattle.attr_walk.specs.Attributes.{attributes, tiled, any, found, firstOf, countOf, kindIs}
 use Rattle.attr_survey.specs.declared.Flags as D
-use Rattle.attr_types.specs.Types.{unsupportedIn, misfitting, among, criteria, changes, firstRepeated, none}
+use Rattle.attr_types.specs.Types.{unsupportedIn, misfitting, among, namingTypes, changingTypes, firstRepeated, none}
 
 -- nothing noted yet
 unfoldable pub zeros : List ℕ
@@ -54,5 +54,5 @@ pub record Flagged (s : List ℕ) (code : ℕ) (r : D.Flags) : Type 0 where
   pub service : r .service ≡ any (kindIs 6) (attributes s)
   pub repeated : r .repeated ≡ found (firstRepeated none (attributes s))
   pub misfit : r .misfit ≡ any misfitting (attributes s)
-  pub criterion : r .criterion ≡ any (among criteria) (attributes s)
-  pub change : r .change ≡ any (among changes) (attributes s)
+  pub criterion : r .criterion ≡ any (among namingTypes) (attributes s)
+  pub change : r .change ≡ any (among changingTypes) (attributes s)

@@ -10,7 +10,7 @@ use native.Mathlib.Omega.{arith}
 use lib.Dec.{eqb}
 use lib.ListN.{getD}
 use Rattle.octet_numbers.specs.Runs.{member}
-use Rattle.attr_types.specs.Types.{supported, sixTypes, filledTypes, criteria, changes}
+use Rattle.attr_types.specs.Types.{supported, sixTypes, filledTypes, namingTypes, changingTypes}
 use Rattle.attr_types.specs.Classes.{bit, classOf, says, tabulate, classes}
 
 -- ---- the entry of a type
@@ -72,32 +72,32 @@ module _ (a b c d e f g h : Bool) where
 module _ (k : ℕ) where
   pub says-coa : says 1 (classOf k) ≡ supported 43 k
   unfolding classOf
-  says-coa = weight-1 (supported 43 k) (supported 40 k) (member k sixTypes) (member k filledTypes) (member k criteria) (member k changes) (eqb k 33) (eqb k 6)
+  says-coa = weight-1 (supported 43 k) (supported 40 k) (member k sixTypes) (member k filledTypes) (member k namingTypes) (member k changingTypes) (eqb k 33) (eqb k 6)
 
   pub says-disconnect : says 2 (classOf k) ≡ supported 40 k
   unfolding classOf
-  says-disconnect = weight-2 (supported 43 k) (supported 40 k) (member k sixTypes) (member k filledTypes) (member k criteria) (member k changes) (eqb k 33) (eqb k 6)
+  says-disconnect = weight-2 (supported 43 k) (supported 40 k) (member k sixTypes) (member k filledTypes) (member k namingTypes) (member k changingTypes) (eqb k 33) (eqb k 6)
 
   pub says-six : says 4 (classOf k) ≡ member k sixTypes
   unfolding classOf
-  says-six = weight-4 (supported 43 k) (supported 40 k) (member k sixTypes) (member k filledTypes) (member k criteria) (member k changes) (eqb k 33) (eqb k 6)
+  says-six = weight-4 (supported 43 k) (supported 40 k) (member k sixTypes) (member k filledTypes) (member k namingTypes) (member k changingTypes) (eqb k 33) (eqb k 6)
 
   pub says-filled : says 8 (classOf k) ≡ member k filledTypes
   unfolding classOf
-  says-filled = weight-8 (supported 43 k) (supported 40 k) (member k sixTypes) (member k filledTypes) (member k criteria) (member k changes) (eqb k 33) (eqb k 6)
+  says-filled = weight-8 (supported 43 k) (supported 40 k) (member k sixTypes) (member k filledTypes) (member k namingTypes) (member k changingTypes) (eqb k 33) (eqb k 6)
 
-  pub says-criterion : says 16 (classOf k) ≡ member k criteria
+  pub says-criterion : says 16 (classOf k) ≡ member k namingTypes
   unfolding classOf
-  says-criterion = weight-16 (supported 43 k) (supported 40 k) (member k sixTypes) (member k filledTypes) (member k criteria) (member k changes) (eqb k 33) (eqb k 6)
+  says-criterion = weight-16 (supported 43 k) (supported 40 k) (member k sixTypes) (member k filledTypes) (member k namingTypes) (member k changingTypes) (eqb k 33) (eqb k 6)
 
-  pub says-change : says 32 (classOf k) ≡ member k changes
+  pub says-change : says 32 (classOf k) ≡ member k changingTypes
   unfolding classOf
-  says-change = weight-32 (supported 43 k) (supported 40 k) (member k sixTypes) (member k filledTypes) (member k criteria) (member k changes) (eqb k 33) (eqb k 6)
+  says-change = weight-32 (supported 43 k) (supported 40 k) (member k sixTypes) (member k filledTypes) (member k namingTypes) (member k changingTypes) (eqb k 33) (eqb k 6)
 
   pub says-repeats : says 64 (classOf k) ≡ eqb k 33
   unfolding classOf
-  says-repeats = weight-64 (supported 43 k) (supported 40 k) (member k sixTypes) (member k filledTypes) (member k criteria) (member k changes) (eqb k 33) (eqb k 6)
+  says-repeats = weight-64 (supported 43 k) (supported 40 k) (member k sixTypes) (member k filledTypes) (member k namingTypes) (member k changingTypes) (eqb k 33) (eqb k 6)
 
   pub says-service : says 128 (classOf k) ≡ eqb k 6
   unfolding classOf
-  says-service = weight-128 (supported 43 k) (supported 40 k) (member k sixTypes) (member k filledTypes) (member k criteria) (member k changes) (eqb k 33) (eqb k 6)
+  says-service = weight-128 (supported 43 k) (supported 40 k) (member k sixTypes) (member k filledTypes) (member k namingTypes) (member k changingTypes) (eqb k 33) (eqb k 6)

@@ -5,7 +5,7 @@ use mathlib.Core.List.{List, [], _∷_}
 use Prim.Native.Nat.{ℕ, zero, suc, _+_, _*_, _/_, _%_}
 use lib.Dec.{eqb}
 use Rattle.octet_numbers.specs.Runs.{member}
-use Rattle.attr_types.specs.Types.{supported, sixTypes, filledTypes, criteria, changes}
+use Rattle.attr_types.specs.Types.{supported, sixTypes, filledTypes, namingTypes, changingTypes}
 
 abbrev pub bit : Bool → ℕ
 bit b = cond b 1 0
@@ -17,8 +17,8 @@ classOf k =
     + 2 * bit (supported 40 k)
     + 4 * bit (member k sixTypes)
     + 8 * bit (member k filledTypes)
-    + 16 * bit (member k criteria)
-    + 32 * bit (member k changes)
+    + 16 * bit (member k namingTypes)
+    + 32 * bit (member k changingTypes)
     + 64 * bit (eqb k 33)
     + 128 * bit (eqb k 6)
 

@@ -27,11 +27,11 @@ abbrev pub filledTypes : List ℕ
 filledTypes = 1 ∷ 11 ∷ 24 ∷ 31 ∷ 32 ∷ 33 ∷ 44 ∷ []
 
 -- 402: types that name a session, and types that change one
-abbrev pub criteria : List ℕ
-criteria = 1 ∷ 5 ∷ 8 ∷ 31 ∷ 44 ∷ []
+abbrev pub namingTypes : List ℕ
+namingTypes = 1 ∷ 5 ∷ 8 ∷ 31 ∷ 44 ∷ []
 
-abbrev pub changes : List ℕ
-changes = 11 ∷ 27 ∷ 28 ∷ []
+abbrev pub changingTypes : List ℕ
+changingTypes = 11 ∷ 27 ∷ 28 ∷ []
 
 -- 401: the type is not supported in a request of this code
 abbrev pub unsupportedIn : ℕ → Attribute → Bool

@@ -8,7 +8,7 @@ use Rattle.nas_settings.specs.Settings.{Settings}
 use Rattle.das_answer.specs.declared.Answer as D
 use Rattle.das_answer.specs.declared.Answer.the-variants as A
 use Rattle.das_handle.specs.Handle.{handleAnswer}
-use Rattle.das_answer.specs.Told.{replySize}
+use Rattle.das_answer.specs.Replied.{replySize}
 use Rattle.das_handle.proofs.Bounds.{changeCount, reply-most, change-few}
 use Rattle.c_numbers.specs.Numbers.{Told, alone, answerTold, Small}
 

@@ -13,13 +13,13 @@ pub extern "C" fn fbk_drop_lent(
     marks: &mut [[u8; 64]; 4],
     secret: &[u8; 64],
     size: usize,
-    address: u32,
-    name: &[u8; 32],
+    nas_ip: u32,
+    nas_id: &[u8; 32],
     label: usize,
     job: u32,
 ) -> u32
-    ensures { λ r. ⌜ r ≡ numberBy (dropCalled (schedulerIn (held (now (words .entry)) (now (kinds .entry)) (now (places .entry)) (now (marks .entry)) (now (secret .entry)) size address (now (name .entry)) label)) job .outcome) ⌝ }
-    ensures { λ _. ⌜ held (now (words .exit)) (now (kinds .exit)) (now (places .exit)) (now (marks .exit)) (now (secret .entry)) size address (now (name .entry)) label ≡ dropLeft (held (now (words .entry)) (now (kinds .entry)) (now (places .entry)) (now (marks .entry)) (now (secret .entry)) size address (now (name .entry)) label) job ⌝ }
+    ensures { λ r. ⌜ r ≡ numberBy (dropCalled (schedulerIn (held (now (words .entry)) (now (kinds .entry)) (now (places .entry)) (now (marks .entry)) (now (secret .entry)) size «nas_ip» (now («nas_id» .entry)) label)) job .outcome) ⌝ }
+    ensures { λ _. ⌜ held (now (words .exit)) (now (kinds .exit)) (now (places .exit)) (now (marks .exit)) (now (secret .entry)) size «nas_ip» (now («nas_id» .entry)) label ≡ dropLeft (held (now (words .entry)) (now (kinds .entry)) (now (places .entry)) (now (marks .entry)) (now (secret .entry)) size «nas_ip» (now («nas_id» .entry)) label) job ⌝ }
 {
     sched_open::drop(
         words,
@@ -28,8 +28,8 @@ pub extern "C" fn fbk_drop_lent(
         marks,
         secret,
         size,
-        address,
-        name,
+        nas_ip,
+        nas_id,
         label,
         job as usize,
     )

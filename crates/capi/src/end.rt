@@ -14,14 +14,14 @@ pub extern "C" fn fbk_end_lent(
     marks: &mut [[u8; 64]; 4],
     secret: &[u8; 64],
     size: usize,
-    address: u32,
-    name: &[u8; 32],
+    nas_ip: u32,
+    nas_id: &[u8; 32],
     label: usize,
     table: &mut [u8],
     slot: u32,
 ) -> u32
-    ensures { λ r. ⌜ r ≡ numberBy (endCalled (schedulerIn (held (now (words .entry)) (now (kinds .entry)) (now (places .entry)) (now (marks .entry)) (now (secret .entry)) size address (now (name .entry)) label)) slot (now (table .entry)) .outcome) ⌝ }
-    ensures { λ _. ⌜ held (now (words .entry)) (now (kinds .entry)) (now (places .exit)) (now (marks .exit)) (now (secret .entry)) size address (now (name .entry)) label ≡ endLeft (held (now (words .entry)) (now (kinds .entry)) (now (places .entry)) (now (marks .entry)) (now (secret .entry)) size address (now (name .entry)) label) slot (now (table .entry)) ⌝ }
+    ensures { λ r. ⌜ r ≡ numberBy (endCalled (schedulerIn (held (now (words .entry)) (now (kinds .entry)) (now (places .entry)) (now (marks .entry)) (now (secret .entry)) size «nas_ip» (now («nas_id» .entry)) label)) slot (now (table .entry)) .outcome) ⌝ }
+    ensures { λ _. ⌜ held (now (words .entry)) (now (kinds .entry)) (now (places .exit)) (now (marks .exit)) (now (secret .entry)) size «nas_ip» (now («nas_id» .entry)) label ≡ endLeft (held (now (words .entry)) (now (kinds .entry)) (now (places .entry)) (now (marks .entry)) (now (secret .entry)) size «nas_ip» (now («nas_id» .entry)) label) slot (now (table .entry)) ⌝ }
     ensures { λ _. ⌜ now (table .exit) ≡ removeTable slot (now (table .entry)) ⌝ }
 {
     sched_start::end(
@@ -31,8 +31,8 @@ pub extern "C" fn fbk_end_lent(
         marks,
         secret,
         size,
-        address,
-        name,
+        nas_ip,
+        nas_id,
         label,
         table,
         slot as usize,

@@ -20,8 +20,8 @@ ghost use Rattle.c_numbers.specs.Numbers.{told, answerTold, writtenNumber, writ
 pub extern "C" fn fbk_handle(
     table: &mut [u8],
     secret: &[u8],
-    address: u32,
-    name: &[u8],
+    nas_ip: u32,
+    nas_id: &[u8],
     reply: &mut [u8],
     packet: &[u8],
     clock: u32,
@@ -30,11 +30,11 @@ pub extern "C" fn fbk_handle(
     skew: &mut i64,
     stamped: &mut u32,
 ) -> u32
-    ensures { λ r. ⌜ told r (now (changed .exit)) (now (size .exit)) (now (skew .exit)) (now (stamped .exit)) ≡ answerTold (handleAnswer (settings (now (secret .entry)) address (now (name .entry))) (now (table .entry)) (now (reply .entry)) (now (packet .entry)) clock) (told 0 (now (changed .entry)) (now (size .entry)) (now (skew .entry)) (now (stamped .entry))) ⌝ }
-    ensures { λ _. ⌜ now (table .exit) ≡ handleTable (settings (now (secret .entry)) address (now (name .entry))) (now (table .entry)) (now (reply .entry)) (now (packet .entry)) clock ⌝ }
-    ensures { λ _. ⌜ now (reply .exit) ≡ handleReply (settings (now (secret .entry)) address (now (name .entry))) (now (table .entry)) (now (reply .entry)) (now (packet .entry)) clock ⌝ }
+    ensures { λ r. ⌜ told r (now (changed .exit)) (now (size .exit)) (now (skew .exit)) (now (stamped .exit)) ≡ answerTold (handleAnswer (settings (now (secret .entry)) «nas_ip» (now («nas_id» .entry))) (now (table .entry)) (now (reply .entry)) (now (packet .entry)) clock) (told 0 (now (changed .entry)) (now (size .entry)) (now (skew .entry)) (now (stamped .entry))) ⌝ }
+    ensures { λ _. ⌜ now (table .exit) ≡ handleTable (settings (now (secret .entry)) «nas_ip» (now («nas_id» .entry))) (now (table .entry)) (now (reply .entry)) (now (packet .entry)) clock ⌝ }
+    ensures { λ _. ⌜ now (reply .exit) ≡ handleReply (settings (now (secret .entry)) «nas_ip» (now («nas_id» .entry))) (now (table .entry)) (now (reply .entry)) (now (packet .entry)) clock ⌝ }
 {
-    let a = das_handle::handle(table, secret, address, name, reply, packet, clock);
+    let a = das_handle::handle(table, secret, nas_ip, nas_id, reply, packet, clock);
     c_numbers::numbers::tell(a, changed, size, skew, stamped)
 }
 

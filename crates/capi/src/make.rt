@@ -13,15 +13,15 @@ pub extern "C" fn fbk_make_lent(
     marks: &mut [[u8; 64]; 4],
     kept: &mut [u8; 64],
     size: &mut usize,
-    address: &mut u32,
+    nas_ip: &mut u32,
     own: &mut [u8; 32],
     label: &mut usize,
     secret: &[u8],
     ip: u32,
-    name: &[u8],
+    nas_id: &[u8],
 ) -> u32
-    ensures { λ r. ⌜ r ≡ makeRefusal (settings (now (secret .entry)) ip (now (name .entry))) ⌝ }
-    ensures { λ _. ⌜ held (now (words .exit)) (now (kinds .exit)) (now (places .exit)) (now (marks .exit)) (now (kept .exit)) (now (size .exit)) (now (address .exit)) (now (own .exit)) (now (label .exit)) ≡ makeLeft (settings (now (secret .entry)) ip (now (name .entry))) (held (now (words .entry)) (now (kinds .entry)) (now (places .entry)) (now (marks .entry)) (now (kept .entry)) (now (size .entry)) (now (address .entry)) (now (own .entry)) (now (label .entry))) ⌝ }
+    ensures { λ r. ⌜ r ≡ makeRefusal (settings (now (secret .entry)) ip (now («nas_id» .entry))) ⌝ }
+    ensures { λ _. ⌜ held (now (words .exit)) (now (kinds .exit)) (now (places .exit)) (now (marks .exit)) (now (kept .exit)) (now (size .exit)) (now («nas_ip» .exit)) (now (own .exit)) (now (label .exit)) ≡ makeLeft (settings (now (secret .entry)) ip (now («nas_id» .entry))) (held (now (words .entry)) (now (kinds .entry)) (now (places .entry)) (now (marks .entry)) (now (kept .entry)) (now (size .entry)) (now («nas_ip» .entry)) (now (own .entry)) (now (label .entry))) ⌝ }
 {
     sched_make::make(
         words,
@@ -30,11 +30,11 @@ pub extern "C" fn fbk_make_lent(
         marks,
         kept,
         size,
-        address,
+        nas_ip,
         own,
         label,
         secret,
         ip,
-        name,
+        nas_id,
     )
 }

@@ -13,18 +13,18 @@ pub extern "C" fn fbk_open_lent(
     marks: &mut [[u8; 64]; 4],
     secret: &[u8; 64],
     size: usize,
-    address: u32,
-    name: &[u8; 32],
+    nas_ip: u32,
+    nas_id: &[u8; 32],
     label: usize,
     packet: &[u8],
     clock: u32,
     store: &mut [u8],
     job: &mut u32,
 ) -> u32
-    ensures { λ r. ⌜ r ≡ numberBy (openCalled (schedulerIn (held (now (words .entry)) (now (kinds .entry)) (now (places .entry)) (now (marks .entry)) (now (secret .entry)) size address (now (name .entry)) label)) (now (packet .entry)) clock (now (store .entry)) .outcome) ⌝ }
-    ensures { λ _. ⌜ held (now (words .exit)) (now (kinds .exit)) (now (places .exit)) (now (marks .exit)) (now (secret .entry)) size address (now (name .entry)) label ≡ openLeft (held (now (words .entry)) (now (kinds .entry)) (now (places .entry)) (now (marks .entry)) (now (secret .entry)) size address (now (name .entry)) label) (now (packet .entry)) clock (now (store .entry)) ⌝ }
-    ensures { λ _. ⌜ now (store .exit) ≡ openStore (schedulerIn (held (now (words .entry)) (now (kinds .entry)) (now (places .entry)) (now (marks .entry)) (now (secret .entry)) size address (now (name .entry)) label)) (now (packet .entry)) (now (store .entry)) ⌝ }
-    ensures { λ _. ⌜ now (job .exit) ≡ placeBy (openCalled (schedulerIn (held (now (words .entry)) (now (kinds .entry)) (now (places .entry)) (now (marks .entry)) (now (secret .entry)) size address (now (name .entry)) label)) (now (packet .entry)) clock (now (store .entry)) .outcome) (now (job .entry)) ⌝ }
+    ensures { λ r. ⌜ r ≡ numberBy (openCalled (schedulerIn (held (now (words .entry)) (now (kinds .entry)) (now (places .entry)) (now (marks .entry)) (now (secret .entry)) size «nas_ip» (now («nas_id» .entry)) label)) (now (packet .entry)) clock (now (store .entry)) .outcome) ⌝ }
+    ensures { λ _. ⌜ held (now (words .exit)) (now (kinds .exit)) (now (places .exit)) (now (marks .exit)) (now (secret .entry)) size «nas_ip» (now («nas_id» .entry)) label ≡ openLeft (held (now (words .entry)) (now (kinds .entry)) (now (places .entry)) (now (marks .entry)) (now (secret .entry)) size «nas_ip» (now («nas_id» .entry)) label) (now (packet .entry)) clock (now (store .entry)) ⌝ }
+    ensures { λ _. ⌜ now (store .exit) ≡ openStore (schedulerIn (held (now (words .entry)) (now (kinds .entry)) (now (places .entry)) (now (marks .entry)) (now (secret .entry)) size «nas_ip» (now («nas_id» .entry)) label)) (now (packet .entry)) (now (store .entry)) ⌝ }
+    ensures { λ _. ⌜ now (job .exit) ≡ placeBy (openCalled (schedulerIn (held (now (words .entry)) (now (kinds .entry)) (now (places .entry)) (now (marks .entry)) (now (secret .entry)) size «nas_ip» (now («nas_id» .entry)) label)) (now (packet .entry)) clock (now (store .entry)) .outcome) (now (job .entry)) ⌝ }
 {
     sched_open::open(
         words,
@@ -33,8 +33,8 @@ pub extern "C" fn fbk_open_lent(
         marks,
         secret,
         size,
-        address,
-        name,
+        nas_ip,
+        nas_id,
         label,
         packet,
         clock,

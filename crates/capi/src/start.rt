@@ -15,8 +15,8 @@ pub extern "C" fn fbk_start_lent(
     marks: &mut [[u8; 64]; 4],
     secret: &[u8; 64],
     size: usize,
-    address: u32,
-    name: &[u8; 32],
+    nas_ip: u32,
+    nas_id: &[u8; 32],
     label: usize,
     table: &mut [u8],
     port: u32,
@@ -29,10 +29,10 @@ pub extern "C" fn fbk_start_lent(
     filter: &[u8],
     slot: &mut u32,
 ) -> u32
-    ensures { λ r. ⌜ r ≡ numberBy (startCalled (schedulerIn (held (now (words .entry)) (now (kinds .entry)) (now (places .entry)) (now (marks .entry)) (now (secret .entry)) size address (now (name .entry)) label)) (sessionOf port framed timeout idle (now (user .entry)) (now (id .entry)) (now (station .entry)) (now (filter .entry))) (now (table .entry)) .outcome) ⌝ }
-    ensures { λ _. ⌜ held (now (words .entry)) (now (kinds .entry)) (now (places .exit)) (now (marks .exit)) (now (secret .entry)) size address (now (name .entry)) label ≡ startLeft (held (now (words .entry)) (now (kinds .entry)) (now (places .entry)) (now (marks .entry)) (now (secret .entry)) size address (now (name .entry)) label) (sessionOf port framed timeout idle (now (user .entry)) (now (id .entry)) (now (station .entry)) (now (filter .entry))) (now (table .entry)) ⌝ }
+    ensures { λ r. ⌜ r ≡ numberBy (startCalled (schedulerIn (held (now (words .entry)) (now (kinds .entry)) (now (places .entry)) (now (marks .entry)) (now (secret .entry)) size «nas_ip» (now («nas_id» .entry)) label)) (sessionOf port framed timeout idle (now (user .entry)) (now (id .entry)) (now (station .entry)) (now (filter .entry))) (now (table .entry)) .outcome) ⌝ }
+    ensures { λ _. ⌜ held (now (words .entry)) (now (kinds .entry)) (now (places .exit)) (now (marks .exit)) (now (secret .entry)) size «nas_ip» (now («nas_id» .entry)) label ≡ startLeft (held (now (words .entry)) (now (kinds .entry)) (now (places .entry)) (now (marks .entry)) (now (secret .entry)) size «nas_ip» (now («nas_id» .entry)) label) (sessionOf port framed timeout idle (now (user .entry)) (now (id .entry)) (now (station .entry)) (now (filter .entry))) (now (table .entry)) ⌝ }
     ensures { λ _. ⌜ now (table .exit) ≡ insertTable (sessionOf port framed timeout idle (now (user .entry)) (now (id .entry)) (now (station .entry)) (now (filter .entry))) (now (table .entry)) ⌝ }
-    ensures { λ _. ⌜ now (slot .exit) ≡ placeBy (startCalled (schedulerIn (held (now (words .entry)) (now (kinds .entry)) (now (places .entry)) (now (marks .entry)) (now (secret .entry)) size address (now (name .entry)) label)) (sessionOf port framed timeout idle (now (user .entry)) (now (id .entry)) (now (station .entry)) (now (filter .entry))) (now (table .entry)) .outcome) (now (slot .entry)) ⌝ }
+    ensures { λ _. ⌜ now (slot .exit) ≡ placeBy (startCalled (schedulerIn (held (now (words .entry)) (now (kinds .entry)) (now (places .entry)) (now (marks .entry)) (now (secret .entry)) size «nas_ip» (now («nas_id» .entry)) label)) (sessionOf port framed timeout idle (now (user .entry)) (now (id .entry)) (now (station .entry)) (now (filter .entry))) (now (table .entry)) .outcome) (now (slot .entry)) ⌝ }
 {
     sched_start::start(
         words,
@@ -41,8 +41,8 @@ pub extern "C" fn fbk_start_lent(
         marks,
         secret,
         size,
-        address,
-        name,
+        nas_ip,
+        nas_id,
         label,
         table,
         port,

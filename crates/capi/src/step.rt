@@ -14,8 +14,8 @@ pub extern "C" fn fbk_step_lent(
     marks: &mut [[u8; 64]; 4],
     secret: &[u8; 64],
     size: usize,
-    address: u32,
-    name: &[u8; 32],
+    nas_ip: u32,
+    nas_id: &[u8; 32],
     label: usize,
     job: u32,
     table: &mut [u8],
@@ -26,10 +26,10 @@ pub extern "C" fn fbk_step_lent(
     skew: &mut i64,
     stamped: &mut u32,
 ) -> u32
-    ensures { λ r. ⌜ told r (now (changed .exit)) (now (bytes .exit)) (now (skew .exit)) (now (stamped .exit)) ≡ toldBy (stepCalled (schedulerIn (held (now (words .entry)) (now (kinds .entry)) (now (places .entry)) (now (marks .entry)) (now (secret .entry)) size address (now (name .entry)) label)) job (now (table .entry)) (now (reply .entry)) (now (store .entry)) .outcome) (told 0 (now (changed .entry)) (now (bytes .entry)) (now (skew .entry)) (now (stamped .entry))) ⌝ }
-    ensures { λ _. ⌜ held (now (words .exit)) (now (kinds .exit)) (now (places .exit)) (now (marks .exit)) (now (secret .entry)) size address (now (name .entry)) label ≡ stepLeft (held (now (words .entry)) (now (kinds .entry)) (now (places .entry)) (now (marks .entry)) (now (secret .entry)) size address (now (name .entry)) label) job (now (table .entry)) (now (reply .entry)) (now (store .entry)) ⌝ }
-    ensures { λ _. ⌜ now (table .exit) ≡ stepTable (schedulerIn (held (now (words .entry)) (now (kinds .entry)) (now (places .entry)) (now (marks .entry)) (now (secret .entry)) size address (now (name .entry)) label)) job (now (table .entry)) (now (reply .entry)) (now (store .entry)) ⌝ }
-    ensures { λ _. ⌜ now (reply .exit) ≡ stepReply (schedulerIn (held (now (words .entry)) (now (kinds .entry)) (now (places .entry)) (now (marks .entry)) (now (secret .entry)) size address (now (name .entry)) label)) job (now (table .entry)) (now (reply .entry)) (now (store .entry)) ⌝ }
+    ensures { λ r. ⌜ told r (now (changed .exit)) (now (bytes .exit)) (now (skew .exit)) (now (stamped .exit)) ≡ toldBy (stepCalled (schedulerIn (held (now (words .entry)) (now (kinds .entry)) (now (places .entry)) (now (marks .entry)) (now (secret .entry)) size «nas_ip» (now («nas_id» .entry)) label)) job (now (table .entry)) (now (reply .entry)) (now (store .entry)) .outcome) (told 0 (now (changed .entry)) (now (bytes .entry)) (now (skew .entry)) (now (stamped .entry))) ⌝ }
+    ensures { λ _. ⌜ held (now (words .exit)) (now (kinds .exit)) (now (places .exit)) (now (marks .exit)) (now (secret .entry)) size «nas_ip» (now («nas_id» .entry)) label ≡ stepLeft (held (now (words .entry)) (now (kinds .entry)) (now (places .entry)) (now (marks .entry)) (now (secret .entry)) size «nas_ip» (now («nas_id» .entry)) label) job (now (table .entry)) (now (reply .entry)) (now (store .entry)) ⌝ }
+    ensures { λ _. ⌜ now (table .exit) ≡ stepTable (schedulerIn (held (now (words .entry)) (now (kinds .entry)) (now (places .entry)) (now (marks .entry)) (now (secret .entry)) size «nas_ip» (now («nas_id» .entry)) label)) job (now (table .entry)) (now (reply .entry)) (now (store .entry)) ⌝ }
+    ensures { λ _. ⌜ now (reply .exit) ≡ stepReply (schedulerIn (held (now (words .entry)) (now (kinds .entry)) (now (places .entry)) (now (marks .entry)) (now (secret .entry)) size «nas_ip» (now («nas_id» .entry)) label)) job (now (table .entry)) (now (reply .entry)) (now (store .entry)) ⌝ }
 {
     sched_step::step(
         words,
@@ -38,8 +38,8 @@ pub extern "C" fn fbk_step_lent(
         marks,
         secret,
         size,
-        address,
-        name,
+        nas_ip,
+        nas_id,
         label,
         job as usize,
         table,

@@ -1,3 +1,3 @@
 pub mod Replies
 pub mod Commit
-pub mod Told
+pub mod Replied

@@ -18,12 +18,12 @@ use Rattle.attr_walk.specs.declared.Search.the-variants.{At, Missing}
 use Rattle.attr_walk.specs.Attributes.{attributes, valueOf, firstOf, kindIs}
 use Rattle.table_criteria.specs.declared.Field.the-variants.{UserName, CallingStation, SessionId}
 use Rattle.table_slots.specs.Slot.{slotCount, slot, live, nasPort, framedAddress, sessionTimeout, idleTimeout, userName, sessionId, callingStation, filterId}
-use Rattle.table_criteria.specs.Matching.{fieldBytes}
+use Rattle.table_criteria.specs.Meets.{fieldBytes}
 use Rattle.table_slots.proofs.Count.{slot-fits}
 use Rattle.table_slots.proofs.Places.{length-slot}
 use Rattle.table_change.specs.declared.Alteration.{Alteration}
 use Rattle.table_change.specs.Change.{altered, changed}
-use Rattle.table_change.proofs.Kept.{part-low, field-kept, live-altered}
+use Rattle.table_change.proofs.Untouched.{part-low, field-kept, live-altered}
 use Rattle.table_change.proofs.Written.{timeout-set, timeout-kept, idle-set, idle-kept, filter-set, filter-kept}
 use Rattle.das_effects.specs.Matching.{matchesIn}
 use Rattle.das_effects.specs.Changes.{numberAt, textAt, alterationOf, changeOf, changeMatching}

@@ -22,7 +22,7 @@ use Rattle.table_criteria.specs.declared.Criterion.{Criterion}
 use Rattle.table_criteria.specs.declared.Field.{Field}
 use Rattle.table_criteria.specs.declared.Field.the-variants.{UserName, NasPort, FramedAddress, CallingStation, SessionId}
 use Rattle.table_slots.specs.Slot.{slot}
-use Rattle.table_criteria.specs.Matching.{fieldBytes, meets, all, matches, matchesAt}
+use Rattle.table_criteria.specs.Meets.{fieldBytes, meets, all, matches, matchesAt}
 use Rattle.table_slots.specs.Marks.{marksAfter}
 use Rattle.table_slots.proofs.Marked.{marks-same}
 use Rattle.das_effects.specs.Taken.{takenCriterion, ifThere, takenCriteria}

@@ -13,7 +13,7 @@ use Rattle.table_criteria.specs.declared.Field.{Field}
 use Rattle.table_criteria.specs.declared.Field.the-variants.{UserName, NasPort, FramedAddress, CallingStation, SessionId}
 use Rattle.table_criteria.specs.declared.Criterion.{Criterion}
 use Rattle.table_criteria.specs.declared.Criteria.{Criteria}
-use Rattle.table_criteria.specs.Matching.{listed}
+use Rattle.table_criteria.specs.Meets.{listed}
 use Rattle.table_change.specs.declared.Number.the-variants as N
 use Rattle.table_change.specs.declared.Text.the-variants as T
 use Rattle.attr_lookup.specs.Lookup.{keptPlace, keptSize}

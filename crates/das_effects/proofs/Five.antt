@@ -11,7 +11,7 @@ use Rattle.attr_walk.specs.declared.Search.{Search}
 use Rattle.attr_walk.specs.declared.Search.the-variants.{At}
 use Rattle.attr_walk.specs.Attributes.{any, found, firstOf}
 use Rattle.octet_numbers.specs.Runs.{member}
-use Rattle.attr_types.specs.Types.{criteria}
+use Rattle.attr_types.specs.Types.{namingTypes}
 use Rattle.table_criteria.specs.declared.Field.{Field}
 use Rattle.table_criteria.specs.declared.Field.the-variants.{UserName, NasPort, FramedAddress, CallingStation, SessionId}
 use Rattle.das_effects.specs.Matching.{fieldFor, allOf}
@@ -27,7 +27,7 @@ asks j f k x = cond (eqb j k) (f x) true
 
 -- the tests of five types, of which at most one holds
 pub five : (j : ℕ) (f : Field → Bool)
-    → cond (member j criteria) (f (fieldFor j)) true ≡ (asks j f 1 UserName && (asks j f 5 NasPort && (asks j f 8 FramedAddress && (asks j f 31 CallingStation && asks j f 44 SessionId))))
+    → cond (member j namingTypes) (f (fieldFor j)) true ≡ (asks j f 1 UserName && (asks j f 5 NasPort && (asks j f 8 FramedAddress && (asks j f 31 CallingStation && asks j f 44 SessionId))))
 unfolding fieldFor
 five j f =
     split (eqb j 1) _ f UserName _ (λ e. rw (eqb-true j 1 e))

@@ -10,7 +10,7 @@ use Rattle.attr_walk.specs.Attributes.{attributes, found}
 use Rattle.attr_types.specs.Types.{firstRepeated, none}
 use Rattle.attr_survey.specs.Survey.{Kept}
 use Rattle.table_slots.specs.Slot.{slotCount, slot, live}
-use Rattle.table_criteria.specs.Matching.{matchesAt}
+use Rattle.table_criteria.specs.Meets.{matchesAt}
 use Rattle.table_slots.specs.Marks.{marksAfter, countTo}
 use Rattle.table_change.specs.declared.Change.{Change}
 use Rattle.table_change.specs.Change.{changeAt, changeWhere, marked, changeMarked, countMarked}

@@ -8,11 +8,11 @@ use lib.Dec.{eqb}
 use Rattle.octet_numbers.specs.Runs.{equalBytes}
 use Rattle.attr_walk.specs.declared.Attribute.{Attribute}
 use Rattle.attr_walk.specs.Attributes.{attributes, valueOf}
-use Rattle.attr_types.specs.Types.{among, criteria}
+use Rattle.attr_types.specs.Types.{among, namingTypes}
 use Rattle.table_criteria.specs.declared.Field.{Field}
 use Rattle.table_criteria.specs.declared.Field.the-variants.{UserName, NasPort, FramedAddress, CallingStation, SessionId}
 use Rattle.table_slots.specs.Slot.{live, slot, slotCount}
-use Rattle.table_criteria.specs.Matching.{fieldBytes}
+use Rattle.table_criteria.specs.Meets.{fieldBytes}
 use Rattle.table_slots.specs.Marks.{countTo}
 
 -- the field that a type of `criteria` is compared with: 1, 5, 8, 31, else 44
@@ -21,7 +21,7 @@ fieldFor k = cond (eqb k 1) UserName (cond (eqb k 5) NasPort (cond (eqb k 8) Fra
 
 -- an attribute that names a session equals its field in the slot s, byte for byte with equal length; any other asks nothing
 unfoldable pub equalsField : List ℕ → List ℕ → Attribute → Bool
-equalsField area s a = cond (among criteria a) (equalBytes (valueOf area a) (fieldBytes (fieldFor (a .kind)) s)) true
+equalsField area s a = cond (among namingTypes a) (equalBytes (valueOf area a) (fieldBytes (fieldFor (a .kind)) s)) true
 
 abbrev pub allOf : (Attribute → Bool) → List Attribute → Bool
 allOf f [] = true

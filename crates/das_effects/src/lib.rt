@@ -4,7 +4,7 @@ mod taken; // taken.rt: a criterion, a number or a text, from what the pass kept
 ghost use mathlib.Core.Path.{_≡_};
 ghost use mathlib.Core.Bool.{false};
 ghost use Rattle.attr_walk.specs.Attributes.{attributes, any};
-ghost use Rattle.table_criteria.specs.Matching.{listed};
+ghost use Rattle.table_criteria.specs.Meets.{listed};
 ghost use Rattle.attr_survey.specs.Survey.{Kept};
 ghost use Rattle.attr_types.specs.Types.{misfitting};
 ghost use Rattle.das_effects.specs.Taken.{takenCriteria};
@@ -18,6 +18,7 @@ use attr_types::NAS_PORT;
 use attr_types::SESSION_TIMEOUT;
 use attr_types::USER_NAME;
 use table_criteria::Field;
+use taken::with;
 
 // The criteria of a request, from what the pass over its attributes kept: one for each of 1, 5, 8, 31, 44 that it has.
 pub fn criteria(count: &[u8; 256], ends: &[u16; 256], sizes: &[u8; 256]) -> table_criteria::Criteria
@@ -32,9 +33,9 @@ pub fn criteria(count: &[u8; 256], ends: &[u16; 256], sizes: &[u8; 256]) -> tabl
         count: 0,
         list: [none; 5],
     };
-    let c = taken::with(c, Field::UserName, USER_NAME, count, ends, sizes);
-    let c = taken::with(c, Field::NasPort, NAS_PORT, count, ends, sizes);
-    let c = taken::with(
+    let c = with(c, Field::UserName, USER_NAME, count, ends, sizes);
+    let c = with(c, Field::NasPort, NAS_PORT, count, ends, sizes);
+    let c = with(
         c,
         Field::FramedAddress,
         FRAMED_IP_ADDRESS,
@@ -42,7 +43,7 @@ pub fn criteria(count: &[u8; 256], ends: &[u16; 256], sizes: &[u8; 256]) -> tabl
         ends,
         sizes,
     );
-    let c = taken::with(
+    let c = with(
         c,
         Field::CallingStation,
         CALLING_STATION_ID,
@@ -50,7 +51,7 @@ pub fn criteria(count: &[u8; 256], ends: &[u16; 256], sizes: &[u8; 256]) -> tabl
         ends,
         sizes,
     );
-    taken::with(c, Field::SessionId, ACCT_SESSION_ID, count, ends, sizes)
+    with(c, Field::SessionId, ACCT_SESSION_ID, count, ends, sizes)
 }
 
 // What a CoA alters. Its numbers have their length (404 does not apply).

@@ -4,7 +4,7 @@ ghost use mathlib.Core.Bool.{true};
 ghost use mathlib.Core.List.{_++_};
 ghost use lib.ListN.{length};
 ghost use Prim.Native.Nat.{_+_, _≤_, _<_};
-ghost use Rattle.table_criteria.specs.Matching.{listed};
+ghost use Rattle.table_criteria.specs.Meets.{listed};
 ghost use Rattle.attr_survey.specs.Survey.{seenAt};
 ghost use Rattle.attr_lookup.specs.Lookup.{keptPlace};
 ghost use Rattle.das_effects.specs.Taken.{ifThere, takenNumber, takenText};

@@ -25,7 +25,7 @@ use Rattle.das_reply_parts.specs.Reply.{replyLength}
 use Rattle.das_effects.specs.Matching.{matchesIn, matchCount}
 use Rattle.das_answer.specs.declared.Answer as D
 use Rattle.das_answer.specs.declared.Answer.the-variants as A
-use Rattle.das_answer.specs.Told.{replySize}
+use Rattle.das_answer.specs.Replied.{replySize}
 use Rattle.das_answer.specs.Commit.{countAnswer}
 use Rattle.das_handle.specs.Refusals.{refusalOf}
 use Rattle.das_handle.specs.Handle.{answerOf, handleAnswer}

@@ -10,7 +10,7 @@ use Rattle.attr_types.specs.Types.{misfitting, firstRepeated, none}
 use Rattle.attr_survey.specs.Survey.{Kept}
 use Rattle.table_criteria.specs.declared.Criterion.{Criterion}
 use Rattle.table_slots.specs.Slot.{slotCount}
-use Rattle.table_criteria.specs.Matching.{matchesAt}
+use Rattle.table_criteria.specs.Meets.{matchesAt}
 use Rattle.table_slots.specs.Marks.{marksAfter}
 use Rattle.rule_causes.specs.declared.Cause.{Cause}
 use Rattle.packet_form.specs.Packet.{areaOf}

@@ -11,7 +11,7 @@ use lib.ListN.{length}
 use Rattle.octet_numbers.specs.Runs.{part, equalBytes}
 use Rattle.packet_auth.specs.Signing.{zeros, authenticator}
 use Rattle.table_slots.specs.Slot.{slotCount}
-use Rattle.nas_settings.specs.Settings.{Settings, badSecret, badName}
+use Rattle.nas_settings.specs.Settings.{Settings, badSecret, badNasId}
 use Rattle.packet_form.specs.Discards.{formOf, Sized}
 use Rattle.rule_verdict.specs.Discards.{signedBy}
 use Rattle.rule_verdict.specs.Verdict.{checkVerdict, verdictOf}
@@ -34,18 +34,18 @@ module _ (g : Settings) (t b : List ℕ) (n : ℕ) (slots : n ≡ slotCount t) w
     unfolding refusalOf
     refused-secret h = rw (← slots, ne-eqb _ _ some, ← secret, h)
 
-    module _ (fits : x ≡ false) (y : Bool) (name : y ≡ badName (g .name)) where
+    module _ (fits : x ≡ false) (y : Bool) («nas_id» : y ≡ badNasId (g .«nas_id»)) where
       pub refused-name : y ≡ true → 3 ≡ refusalOf g t b
       unfolding refusalOf
-      refused-name h = rw (← slots, ne-eqb _ _ some, ← secret, fits, ← name, h)
+      refused-name h = rw (← slots, ne-eqb _ _ some, ← secret, fits, ← «nas_id», h)
 
       pub refused-reply : y ≡ false → length b < 4096 → 4 ≡ refusalOf g t b
       unfolding refusalOf
-      refused-reply h k = rw (← slots, ne-eqb _ _ some, ← secret, fits, ← name, h, lt-ltb _ _ k)
+      refused-reply h k = rw (← slots, ne-eqb _ _ some, ← secret, fits, ← «nas_id», h, lt-ltb _ _ k)
 
       pub not-refused : y ≡ false → 4096 ≤ length b → 0 ≡ refusalOf g t b
       unfolding refusalOf
-      not-refused h k = rw (← slots, ne-eqb _ _ some, ← secret, fits, ← name, h, le-ltb _ _ k)
+      not-refused h k = rw (← slots, ne-eqb _ _ some, ← secret, fits, ← «nas_id», h, le-ltb _ _ k)
 
 -- a call that is not refused has room for a reply
 room-by : (x y z w : Bool) → _≡_ {A = ℕ} (cond x 1 (cond y 2 (cond z 3 (cond w 4 0)))) 0 → w ≡ false
@@ -57,7 +57,7 @@ room-by false false false false e = refl
 
 pub room : (g : Settings) (t b : List ℕ) (r : ℕ) → r ≡ refusalOf g t b → r ≡ 0 → 4096 ≤ length b
 unfolding refusalOf
-room g t b r e h = ltb-false _ _ (room-by (eqb (slotCount t) 0) (badSecret (g .secret)) (badName (g .name)) (ltb (length b) 4096) (sym e ∙ h))
+room g t b r e h = ltb-false _ _ (room-by (eqb (slotCount t) 0) (badSecret (g .secret)) (badNasId (g .«nas_id»)) (ltb (length b) 4096) (sym e ∙ h))
 
 -- ---- the whole
 

@@ -12,8 +12,8 @@ ghost use Rattle.das_handle.specs.Refusals.{refusalOf};
 ghost use Rattle.das_handle.specs.Handle.{answerOf, tableAs, handleAnswer, handleTable, handleReply};
 
 // R1 to R4, the lowest that applies; 0 where none does.
-fn refusal(t: &[u8], secret: &[u8], address: u32, name: &[u8], reply: &[u8]) -> u8
-    ensures { λ r. ⌜ r ≡ refusalOf (settings (now (secret .entry)) address (now (name .entry))) (now (t .entry)) (now (reply .entry)) ⌝ }
+fn refusal(t: &[u8], secret: &[u8], nas_ip: u32, nas_id: &[u8], reply: &[u8]) -> u8
+    ensures { λ r. ⌜ r ≡ refusalOf (settings (now (secret .entry)) «nas_ip» (now («nas_id» .entry))) (now (t .entry)) (now (reply .entry)) ⌝ }
 {
     if table_slots::slot_count(t) == 0 {
         return 1;
@@ -21,7 +21,7 @@ fn refusal(t: &[u8], secret: &[u8], address: u32, name: &[u8], reply: &[u8]) -> 
     if nas_settings::bad_secret(secret) {
         return 2;
     }
-    if nas_settings::bad_name(name) {
+    if nas_settings::bad_nas_id(nas_id) {
         return 3;
     }
     if reply.len() < 4096 {
@@ -34,14 +34,14 @@ fn refusal(t: &[u8], secret: &[u8], address: u32, name: &[u8], reply: &[u8]) -> 
 fn judged(
     t: &mut [u8],
     secret: &[u8],
-    address: u32,
-    name: &[u8],
+    nas_ip: u32,
+    nas_id: &[u8],
     reply: &mut [u8],
     p: &[u8],
     clock: u32,
 ) -> das_answer::Answer
     requires { ⌜ 4096 ≤ length (now reply) ⌝ }
-    ensures { λ r. ⌜ r ≡ answerOf (now (p .entry)) (now (t .entry)) (verdictOf (settings (now (secret .entry)) address (now (name .entry))) (signedBy (now (secret .entry)) (now (p .entry))) (now (p .entry)) clock) ⌝ }
+    ensures { λ r. ⌜ r ≡ answerOf (now (p .entry)) (now (t .entry)) (verdictOf (settings (now (secret .entry)) «nas_ip» (now («nas_id» .entry))) (signedBy (now (secret .entry)) (now (p .entry))) (now (p .entry)) clock) ⌝ }
     ensures { λ r. ⌜ now (t .exit) ≡ tableAs (now (p .entry)) (now (t .entry)) r ⌝ }
     ensures { λ r. ⌜ now (reply .exit) ≡ replyAs (now (secret .entry)) (now (p .entry)) (now (reply .entry)) r ⌝ }
 {
@@ -51,7 +51,7 @@ fn judged(
     }
     let n = packet_form::length_of(p);
     if packet_auth::request_signed(p, n, secret) {
-        return passed::signed(t, n, secret, address, name, reply, p, clock);
+        return passed::signed(t, n, secret, nas_ip, nas_id, reply, p, clock);
     }
     das_answer::Answer::Discarded(4)
 }
@@ -60,19 +60,19 @@ fn judged(
 pub fn handle(
     t: &mut [u8],
     secret: &[u8],
-    address: u32,
-    name: &[u8],
+    nas_ip: u32,
+    nas_id: &[u8],
     reply: &mut [u8],
     p: &[u8],
     clock: u32,
 ) -> das_answer::Answer
-    ensures { λ r. ⌜ r ≡ handleAnswer (settings (now (secret .entry)) address (now (name .entry))) (now (t .entry)) (now (reply .entry)) (now (p .entry)) clock ⌝ }
-    ensures { λ r. ⌜ now (t .exit) ≡ handleTable (settings (now (secret .entry)) address (now (name .entry))) (now (t .entry)) (now (reply .entry)) (now (p .entry)) clock ⌝ }
-    ensures { λ r. ⌜ now (reply .exit) ≡ handleReply (settings (now (secret .entry)) address (now (name .entry))) (now (t .entry)) (now (reply .entry)) (now (p .entry)) clock ⌝ }
+    ensures { λ r. ⌜ r ≡ handleAnswer (settings (now (secret .entry)) «nas_ip» (now («nas_id» .entry))) (now (t .entry)) (now (reply .entry)) (now (p .entry)) clock ⌝ }
+    ensures { λ r. ⌜ now (t .exit) ≡ handleTable (settings (now (secret .entry)) «nas_ip» (now («nas_id» .entry))) (now (t .entry)) (now (reply .entry)) (now (p .entry)) clock ⌝ }
+    ensures { λ r. ⌜ now (reply .exit) ≡ handleReply (settings (now (secret .entry)) «nas_ip» (now («nas_id» .entry))) (now (t .entry)) (now (reply .entry)) (now (p .entry)) clock ⌝ }
 {
-    let r = refusal(t, secret, address, name, reply);
+    let r = refusal(t, secret, nas_ip, nas_id, reply);
     if r != 0 {
         return das_answer::Answer::Refused(r);
     }
-    judged(t, secret, address, name, reply, p, clock)
+    judged(t, secret, nas_ip, nas_id, reply, p, clock)
 }

@@ -71,14 +71,14 @@ pub fn signed(
     t: &mut [u8],
     n: usize,
     secret: &[u8],
-    address: u32,
-    name: &[u8],
+    nas_ip: u32,
+    nas_id: &[u8],
     reply: &mut [u8],
     p: &[u8],
     clock: u32,
 ) -> das_answer::Answer
     requires { ⌜ Sized (now p) n × (formOf (now p) ≡ 0) × (4096 ≤ length (now reply)) ⌝ }
-    ensures { λ r. ⌜ r ≡ answerOf (now (p .entry)) (now (t .entry)) (checkVerdict (settings (now (secret .entry)) address (now (name .entry))) true (now (p .entry)) clock) ⌝ }
+    ensures { λ r. ⌜ r ≡ answerOf (now (p .entry)) (now (t .entry)) (checkVerdict (settings (now (secret .entry)) «nas_ip» (now («nas_id» .entry))) true (now (p .entry)) clock) ⌝ }
     ensures { λ r. ⌜ now (t .exit) ≡ tableAs (now (p .entry)) (now (t .entry)) r ⌝ }
     ensures { λ r. ⌜ now (reply .exit) ≡ replyAs (now (secret .entry)) (now (p .entry)) (now (reply .entry)) r ⌝ }
 {
@@ -90,8 +90,8 @@ pub fn signed(
         p,
         n,
         secret,
-        address,
-        name,
+        nas_ip,
+        nas_id,
         clock,
         &mut *reply,
         &mut count,

@@ -53,8 +53,8 @@ pub fn judge(
     p: &[u8],
     n: usize,
     secret: &[u8],
-    address: u32,
-    name: &[u8],
+    nas_ip: u32,
+    nas_id: &[u8],
     clock: u32,
     reply: &mut [u8],
     count: &mut [u8; 256],
@@ -63,7 +63,7 @@ pub fn judge(
 ) -> Judged
     requires { ⌜ Sized (now p) n × (formOf (now p) ≡ 0) × (4096 ≤ length (now reply)) ⌝ }
     requires { ⌜ (now count ≡ zeros) × (now ends ≡ zeros) × (now sizes ≡ zeros) ⌝ }
-    ensures { λ r. ⌜ r ≡ judgedAs (now (p .entry)) (checkVerdict (settings (now (secret .entry)) address (now (name .entry))) «signed» (now (p .entry)) clock) ⌝ }
+    ensures { λ r. ⌜ r ≡ judgedAs (now (p .entry)) (checkVerdict (settings (now (secret .entry)) «nas_ip» (now («nas_id» .entry))) «signed» (now (p .entry)) clock) ⌝ }
     ensures { λ r. ⌜ now (reply .exit) ≡ replyJudged (now (secret .entry)) (now (p .entry)) (now (reply .entry)) r ⌝ }
     ensures { λ _. ⌜ Kept (areaOf (now (p .entry))) (now (count .exit)) (now (ends .exit)) (now (sizes .exit)) ⌝ }
 {
@@ -72,8 +72,8 @@ pub fn judge(
         p,
         n,
         secret,
-        address,
-        name,
+        nas_ip,
+        nas_id,
         clock,
         &mut *count,
         &mut *ends,

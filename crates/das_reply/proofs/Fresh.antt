@@ -38,10 +38,10 @@ pub record Reached (g : Settings) (p : List ℕ) (clock : ℕ) (x : R.Verdict) :
   pub right : badMac zeros (g .secret) p ≡ false
   pub stamp : ℕ
   pub usable : stampOf (areaOf p) ≡ Usable stamp
-  pub is : x ≡ freshVerdict (g .address) (g .name) p (skewOf stamp clock)
+  pub is : x ≡ freshVerdict (g .«nas_ip») (g .«nas_id») p (skewOf stamp clock)
 
 module _ (g : Settings) (p : List ℕ) (clock : ℕ) (x : R.Verdict) (yes-answered : answered x ≡ true) where
-  by-stale : (b : Bool) (v : ℕ) → x ≡ cond b (J.Stale (skewOf v clock)) (freshVerdict (g .address) (g .name) p (skewOf v clock)) → x ≡ freshVerdict (g .address) (g .name) p (skewOf v clock)
+  by-stale : (b : Bool) (v : ℕ) → x ≡ cond b (J.Stale (skewOf v clock)) (freshVerdict (g .«nas_ip») (g .«nas_id») p (skewOf v clock)) → x ≡ freshVerdict (g .«nas_ip») (g .«nas_id») p (skewOf v clock)
   by-stale true v e = absurd (false≢true (sym (ap answered e) ∙ yes-answered))
   by-stale false v e = e
 
@@ -69,9 +69,9 @@ by-cause k skew K.UnsupportedService e = let o : _≡_ {A = ℕ} 0 1 = cc in abs
 by-cause k skew K.SessionNotFound e = let o : _≡_ {A = ℕ} 0 1 = cc in absurd (omega arith)
 by-cause k skew K.ResourcesUnavailable e = let o : _≡_ {A = ℕ} 0 1 = cc in absurd (omega arith)
 
-passed-cause : (g : Settings) (p : List ℕ) (k skew : ℤ) → J.Passed k ≡ freshVerdict (g .address) (g .name) p skew → causeOf (codeOf p) (g .address) (g .name) (areaOf p) ≡ K.NoCause
+passed-cause : (g : Settings) (p : List ℕ) (k skew : ℤ) → J.Passed k ≡ freshVerdict (g .«nas_ip») (g .«nas_id») p skew → causeOf (codeOf p) (g .«nas_ip») (g .«nas_id») (areaOf p) ≡ K.NoCause
 unfolding freshVerdict
-passed-cause g p k skew e = by-cause k skew (causeOf (codeOf p) (g .address) (g .name) (areaOf p)) e
+passed-cause g p k skew e = by-cause k skew (causeOf (codeOf p) (g .«nas_ip») (g .«nas_id») (areaOf p)) e
 
 module _ (g : Settings) (p : List ℕ) (clock : ℕ) (x : R.Verdict) (is : x ≡ checkVerdict g true p clock) where
   pub fits : (n : ℕ) (c : C.Cause) → Sized p n → answered x ≡ true → replyLength p c ≤ n
@@ -87,11 +87,11 @@ module _ (g : Settings) (p : List ℕ) (clock : ℕ) (x : R.Verdict) (is : x ≡
   passed-short n c k e sized = short n c sized (ap answered e)
 
   -- what no cause leaves: lengths that fit, and no type but 33 twice
-  pub uncaused : (k : ℤ) → x ≡ J.Passed k → causeOf (codeOf p) (g .address) (g .name) (areaOf p) ≡ K.NoCause
+  pub uncaused : (k : ℤ) → x ≡ J.Passed k → causeOf (codeOf p) (g .«nas_ip») (g .«nas_id») (areaOf p) ≡ K.NoCause
   uncaused k e = let r = reached g p clock x (ap answered e) is in passed-cause g p k (skewOf (r .stamp) clock) (sym e ∙ r .is)
 
   pub passed-misfit : (k : ℤ) → x ≡ J.Passed k → any misfitting (attributes (areaOf p)) ≡ false
-  passed-misfit k e = misfit (codeOf p) (g .address) (g .name) (areaOf p) (uncaused k e)
+  passed-misfit k e = misfit (codeOf p) (g .«nas_ip») (g .«nas_id») (areaOf p) (uncaused k e)
 
   pub passed-once : (k : ℤ) → x ≡ J.Passed k → found (firstRepeated none (attributes (areaOf p))) ≡ false
-  passed-once k e = repeated (codeOf p) (g .address) (g .name) (areaOf p) (uncaused k e)
+  passed-once k e = repeated (codeOf p) (g .«nas_ip») (g .«nas_id») (areaOf p) (uncaused k e)

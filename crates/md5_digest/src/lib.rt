@@ -43,7 +43,7 @@ pub fn finish(buf: &mut [u8], q: State, n: usize) -> [u8; 16]
     ensures { λ r. ⌜ ((m : List ℕ) → Held n m q (now (buf .entry)) → r ≡ md5 m) ⌝ }
 {
     let f = n % 64;
-    md5_padding::put_mark(&mut *buf, f);
+    md5_padding::put_first(&mut *buf, f);
     if f < 56 {
         md5_padding::put_end(&mut *buf, f + 1, n);
         return md5_padding::bytes_of(md5_blocks::blocks(q, &*buf));

@@ -57,7 +57,7 @@ pub fn put_end(buf: &mut [u8], at: usize, n: usize)
 }
 
 // The byte after the message.
-pub fn put_mark(buf: &mut [u8], at: usize)
+pub fn put_first(buf: &mut [u8], at: usize)
     requires { ⌜ at < length (now buf) ⌝ }
     ensures { λ _. ⌜ now (buf .exit) ≡ write (now (buf .entry)) at (0x80 ∷ []) ⌝ }
 {

@@ -6,7 +6,7 @@ use Prim.Native.Nat.{ℕ}
 use borrow.Author.Tests.{eq-eqb, ne-eqb}
 use lib.Dec.{ltb}
 use lib.ListN.{length}
-use Rattle.nas_settings.specs.Settings.{badSecret, badName}
+use Rattle.nas_settings.specs.Settings.{badSecret, badNasId}
 
 pub secret-empty : (l : List ℕ) → length l ≡ 0 → true ≡ badSecret l
 unfolding badSecret
@@ -16,10 +16,10 @@ pub secret-long : (l : List ℕ) → (length l ≡ 0 → ⊥) → ltb 64 (length
 unfolding badSecret
 secret-long l h = rw (ne-eqb _ _ h)
 
-pub name-empty : (l : List ℕ) → length l ≡ 0 → true ≡ badName l
-unfolding badName
+pub name-empty : (l : List ℕ) → length l ≡ 0 → true ≡ badNasId l
+unfolding badNasId
 name-empty l h = rw (eq-eqb _ _ h)
 
-pub name-long : (l : List ℕ) → (length l ≡ 0 → ⊥) → ltb 32 (length l) ≡ badName l
-unfolding badName
+pub name-long : (l : List ℕ) → (length l ≡ 0 → ⊥) → ltb 32 (length l) ≡ badNasId l
+unfolding badNasId
 name-long l h = rw (ne-eqb _ _ h)

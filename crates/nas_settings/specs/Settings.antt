@@ -8,16 +8,16 @@ use lib.ListN.{length}
 
 pub record Settings : Type 0 where
   pub secret : List ℕ
-  pub address : ℕ
-  pub name : List ℕ
+  pub «nas_ip» : ℕ
+  pub «nas_id» : List ℕ
 
 abbrev pub settings : List ℕ → ℕ → List ℕ → Settings
-settings secret address name = record { secret = secret; address = address; name = name }
+settings secret «nas_ip» «nas_id» = record { secret = secret; «nas_ip» = «nas_ip»; «nas_id» = «nas_id» }
 
 -- R2: secret not 1..64 bytes
 unfoldable pub badSecret : List ℕ → Bool
 badSecret secret = eqb (length secret) 0 || ltb 64 (length secret)
 
 -- R3: own NAS-Identifier not 1..32 bytes
-unfoldable pub badName : List ℕ → Bool
-badName name = eqb (length name) 0 || ltb 32 (length name)
+unfoldable pub badNasId : List ℕ → Bool
+badNasId «nas_id» = eqb (length «nas_id») 0 || ltb 32 (length «nas_id»)

@@ -43,18 +43,18 @@ take-replicate zero n a h = refl
 take-replicate (suc z) zero a h = absurd (omega arith)
 take-replicate (suc z) (suc n) a h = ap (λ (l : List ℕ). a ∷ l) (take-replicate z n a (omega arith))
 
--- the code's mark with zeros after it, e bytes in all
-abbrev marked : ℕ → List ℕ
-marked e = take {A = ℕ} e (0x80 ∷ replicate 63 0)
+-- the first byte of the padding with zeros after it, e bytes in all
+abbrev padded : ℕ → List ℕ
+padded e = take {A = ℕ} e (0x80 ∷ replicate 63 0)
 
--- the padding in two parts: the mark with its zeros, and the count
-pub padding-laid : (s t e : ℕ) (c b b₁ b₂ : List ℕ) → Laid s t (marked e) b b₁ → Laid s (t + e) c b₁ b₂ → c ≡ leBytes 8 (t * 8)
+-- the padding in two parts: its first byte with zeros, and the count
+pub padding-laid : (s t e : ℕ) (c b b₁ b₂ : List ℕ) → Laid s t (padded e) b b₁ → Laid s (t + e) c b₁ b₂ → c ≡ leBytes 8 (t * 8)
     → e ≡ (119 - t % 64) % 64 + 1 → (m : List ℕ) → length m ≡ t → b ≡ window s m → b₂ ≡ window s (m ++ padding t)
 padding-laid s t e c b b₁ b₂ first second ec ee m l held =
     let z : ℕ = (119 - t % 64) % 64 in
-    let mark : marked e ≡ 0x80 ∷ replicate z 0 = rw (ee, add-one) (ap (λ (x : List ℕ). 0x80 ∷ x) (take-replicate z 63 0 (omega arith))) in
-    let lm : length (m ++ marked e) ≡ t + e = rw (length-append, mark, l) (simp length-replicate (omega arith)) in
-    second (m ++ marked e) lm (first m l held) ∙ ap (window s) (rw (mark, ec) (append-assoc m (0x80 ∷ replicate z 0) (leBytes 8 (t * 8))))
+    let first-byte : padded e ≡ 0x80 ∷ replicate z 0 = rw (ee, add-one) (ap (λ (x : List ℕ). 0x80 ∷ x) (take-replicate z 63 0 (omega arith))) in
+    let lm : length (m ++ padded e) ≡ t + e = rw (length-append, first-byte, l) (simp length-replicate (omega arith)) in
+    second (m ++ padded e) lm (first m l held) ∙ ap (window s) (rw (first-byte, ec) (append-assoc m (0x80 ∷ replicate z 0) (leBytes 8 (t * 8))))
 
 -- the packet, the secret and the padding
 module _ (s n k : ℕ) (p secret : List ℕ) (low : 20 ≤ n) (fits : n ≤ length p) where

@@ -49,11 +49,11 @@ fn lay_padding(buf: &mut [u8], s: usize, t: usize)
     requires { ⌜ (length (now buf) ≡ 64) × (t < 8192) ⌝ }
     ensures { λ _. ⌜ ((m : List ℕ) → length m ≡ t → now (buf .entry) ≡ window s m → now (buf .exit) ≡ window s (m ++ padding t)) ⌝ }
 {
-    let mut mark = [0u8; 64];
-    mark[0] = 0x80;
+    let mut padding = [0u8; 64];
+    padding[0] = 0x80;
     let e = (119 - t % 64) % 64 + 1;
     let bits = count(t);
-    lay(&mut *buf, s, t, &mark[..e]);
+    lay(&mut *buf, s, t, &padding[..e]);
     lay(buf, s, t + e, &bits);
 }
 

@@ -10,7 +10,7 @@ use Rattle.md5_ops.specs.Md5.{output}
 use Rattle.packet_form.specs.Packet.{authOf}
 
 abbrev pub wordsOf : State → List ℕ
-wordsOf q = q .a ∷ q .b ∷ q .c ∷ q .d ∷ []
+wordsOf x = x .a ∷ x .b ∷ x .c ∷ x .d ∷ []
 
 abbrev pub hashState : List ℕ → State
 hashState w = record { a = getD w 0 0; b = getD w 1 0; c = getD w 2 0; d = getD w 3 0 }

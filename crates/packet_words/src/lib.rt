@@ -16,10 +16,10 @@ fn state_of(words: [u32; 4]) -> md5_ops::State
     }
 }
 
-pub fn words_of(q: md5_ops::State) -> [u32; 4]
-    ensures { λ r. ⌜ r ≡ wordsOf q ⌝ }
+pub fn words_of(x: md5_ops::State) -> [u32; 4]
+    ensures { λ r. ⌜ r ≡ wordsOf x ⌝ }
 {
-    [q.a, q.b, q.c, q.d]
+    [x.a, x.b, x.c, x.d]
 }
 
 // The words after block k of the signed request q, from the words held.

@@ -10,9 +10,16 @@ ghost use Rattle.probe_packets.specs.Told.{verdict, numberOf, skewOf, st
 use rule_verdict::Verdict;
 
 // D5, D6 and causes 1 to 6 of a request that is rightly signed.
-fn check_signed(p: &[u8], n: usize, secret: &[u8], address: u32, name: &[u8], clock: u32) -> Verdict
+fn check_signed(
+    p: &[u8],
+    n: usize,
+    secret: &[u8],
+    nas_ip: u32,
+    nas_id: &[u8],
+    clock: u32,
+) -> Verdict
     requires { ⌜ Sized (now p) n ⌝ }
-    ensures { λ r. ⌜ r ≡ checkVerdict (settings (now (secret .entry)) address (now (name .entry))) true (now (p .entry)) clock ⌝ }
+    ensures { λ r. ⌜ r ≡ checkVerdict (settings (now (secret .entry)) «nas_ip» (now («nas_id» .entry))) true (now (p .entry)) clock ⌝ }
 {
     let mut count = [0u8; 256];
     let mut ends = [0u16; 256];
@@ -22,8 +29,8 @@ fn check_signed(p: &[u8], n: usize, secret: &[u8], address: u32, name: &[u8], cl
         p,
         n,
         secret,
-        address,
-        name,
+        nas_ip,
+        nas_id,
         clock,
         &mut count,
         &mut ends,
@@ -32,8 +39,8 @@ fn check_signed(p: &[u8], n: usize, secret: &[u8], address: u32, name: &[u8], cl
 }
 
 // D1 to D6 and causes 1 to 6 of a packet, as `das_handle::handle` asks for them before any session.
-fn judge(p: &[u8], secret: &[u8], address: u32, name: &[u8], clock: u32) -> Verdict
-    ensures { λ r. ⌜ r ≡ verdictOf (settings (now (secret .entry)) address (now (name .entry))) (signedBy (now (secret .entry)) (now (p .entry))) (now (p .entry)) clock ⌝ }
+fn judge(p: &[u8], secret: &[u8], nas_ip: u32, nas_id: &[u8], clock: u32) -> Verdict
+    ensures { λ r. ⌜ r ≡ verdictOf (settings (now (secret .entry)) «nas_ip» (now («nas_id» .entry))) (signedBy (now (secret .entry)) (now (p .entry))) (now (p .entry)) clock ⌝ }
 {
     let d = packet_form::form(p);
     if d != 0 {
@@ -41,7 +48,7 @@ fn judge(p: &[u8], secret: &[u8], address: u32, name: &[u8], clock: u32) -> Verd
     }
     let n = packet_form::length_of(p);
     if packet_auth::request_signed(p, n, secret) {
-        return check_signed(p, n, secret, address, name, clock);
+        return check_signed(p, n, secret, nas_ip, nas_id, clock);
     }
     Verdict::Discarded(4)
 }
@@ -57,17 +64,17 @@ fn discard_number(d: u8) -> u32
 pub extern "C" fn probe_verdict(
     p: &[u8],
     secret: &[u8],
-    address: u32,
-    name: &[u8],
+    nas_ip: u32,
+    nas_id: &[u8],
     clock: u32,
     skew: &mut i64,
     stamped: &mut u32,
 ) -> u32
-    ensures { λ r. ⌜ r ≡ numberOf (verdict (settings (now (secret .entry)) address (now (name .entry))) (now (p .entry)) clock) ⌝ }
-    ensures { λ r. ⌜ now (skew .exit) ≡ skewOf (verdict (settings (now (secret .entry)) address (now (name .entry))) (now (p .entry)) clock) ⌝ }
-    ensures { λ r. ⌜ now (stamped .exit) ≡ stampedOf (verdict (settings (now (secret .entry)) address (now (name .entry))) (now (p .entry)) clock) ⌝ }
+    ensures { λ r. ⌜ r ≡ numberOf (verdict (settings (now (secret .entry)) «nas_ip» (now («nas_id» .entry))) (now (p .entry)) clock) ⌝ }
+    ensures { λ r. ⌜ now (skew .exit) ≡ skewOf (verdict (settings (now (secret .entry)) «nas_ip» (now («nas_id» .entry))) (now (p .entry)) clock) ⌝ }
+    ensures { λ r. ⌜ now (stamped .exit) ≡ stampedOf (verdict (settings (now (secret .entry)) «nas_ip» (now («nas_id» .entry))) (now (p .entry)) clock) ⌝ }
 {
-    let v = judge(p, secret, address, name, clock);
+    let v = judge(p, secret, nas_ip, nas_id, clock);
     match v {
         Verdict::Discarded(d) => {
             *skew = 0;

@@ -11,7 +11,7 @@ use Rattle.table_slots.specs.Slot.{slotCount}
 use Rattle.table_slots.specs.Marks.{marksAfter}
 use Rattle.table_slots.proofs.Marked.{length-marks}
 use Rattle.table_criteria.specs.declared.Criteria.{Criteria}
-use Rattle.table_criteria.specs.Matching.{listed, matchesAt}
+use Rattle.table_criteria.specs.Meets.{listed, matchesAt}
 use Rattle.table_change.specs.declared.Change.{Change}
 use Rattle.table_change.specs.Change.{changeMarked, countMarked}
 use Rattle.probe_table.specs.Answers.{truth}

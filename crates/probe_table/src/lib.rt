@@ -6,7 +6,7 @@ ghost use mathlib.Core.Path.{_≡_};
 ghost use mathlib.Core.Bool.{cond};
 ghost use Rattle.table_slots.specs.Slot.{slotCount, slot, live};
 ghost use Rattle.table_slots.specs.Marks.{marksAfter};
-ghost use Rattle.table_criteria.specs.Matching.{listed, matchesAt};
+ghost use Rattle.table_criteria.specs.Meets.{listed, matchesAt};
 ghost use Rattle.probe_table.specs.Given.{criteriaOf};
 ghost use Rattle.probe_table.specs.Answers.{answer, truth, marksRoom};
 

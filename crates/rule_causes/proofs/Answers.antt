@@ -32,10 +32,10 @@ module _ (s count ends sizes own : List ℕ) (k : ℕ) (a : Bool) (p : a ≡ see
   differs-there h v q e t = rw (sym p ∙ h) (ap not t ∙ rw q)
 
 -- our address as four bytes: all of l is written
-pub own-address : (s count ends sizes l own : List ℕ) (k address : ℕ) (r : Bool) → length l ≡ 4 → own ≡ write l 0 (beBytes 4 address) → r ≡ differsAt s count ends sizes k own
-    → r ≡ differsAt s count ends sizes k (beBytes 4 address)
-own-address s count ends sizes l own k address r h e q =
-    q ∙ ap (differsAt s count ends sizes k) (e ∙ write-whole l (beBytes 4 address) (length-beBytes 4 address ∙ sym h))
+pub own-address : (s count ends sizes l own : List ℕ) (k «nas_ip» : ℕ) (r : Bool) → length l ≡ 4 → own ≡ write l 0 (beBytes 4 «nas_ip») → r ≡ differsAt s count ends sizes k own
+    → r ≡ differsAt s count ends sizes k (beBytes 4 «nas_ip»)
+own-address s count ends sizes l own k «nas_ip» r h e q =
+    q ∙ ap (differsAt s count ends sizes k) (e ∙ write-whole l (beBytes 4 «nas_ip») (length-beBytes 4 «nas_ip» ∙ sym h))
 
 module _ (code : ℕ) (f : Flags) where
   pub missing-all : f .criterion ≡ false → true ≡ missingBy code f
@@ -53,51 +53,51 @@ module _ (code : ℕ) (f : Flags) where
 
 -- ---- the cascade
 
-module _ (s : List ℕ) (code address : ℕ) (name : List ℕ) (f : Flags) (i : Flagged s code f) where
+module _ (s : List ℕ) (code «nas_ip» : ℕ) («nas_id» : List ℕ) (f : Flags) (i : Flagged s code f) where
   module _ (count ends sizes : List ℕ) (kept : Kept s count ends sizes) (n : f .repeated ≡ false) where
-    tests : cond (differsAt s count ends sizes 4 (beBytes 4 address) || differsAt s count ends sizes 32 name) C.IdentificationMismatch
-        (cond (missingBy code f) C.MissingAttribute (cond (ltb 34 (getD sizes 11 0)) C.ResourcesUnavailable C.NoCause)) ≡ laterOf code address name s
+    tests : cond (differsAt s count ends sizes 4 (beBytes 4 «nas_ip») || differsAt s count ends sizes 32 «nas_id») C.IdentificationMismatch
+        (cond (missingBy code f) C.MissingAttribute (cond (ltb 34 (getD sizes 11 0)) C.ResourcesUnavailable C.NoCause)) ≡ laterOf code «nas_ip» «nas_id» s
     unfolding laterOf
-    tests = rw (differ s code f i count ends sizes kept n address name, missing-flags s code f i, long-any s code f i count ends sizes kept n)
+    tests = rw (differ s code f i count ends sizes kept n «nas_ip» «nas_id», missing-flags s code f i, long-any s code f i count ends sizes kept n)
 
-    module _ (d : Bool) (pd : d ≡ differsAt s count ends sizes 4 (beBytes 4 address)) where
-      pub later-address : d ≡ true → C.IdentificationMismatch ≡ laterOf code address name s
+    module _ (d : Bool) (pd : d ≡ differsAt s count ends sizes 4 (beBytes 4 «nas_ip»)) where
+      pub later-address : d ≡ true → C.IdentificationMismatch ≡ laterOf code «nas_ip» «nas_id» s
       later-address h = rw (sym pd ∙ h) at tests
 
-      module _ (nd : d ≡ false) (e : Bool) (pe : e ≡ differsAt s count ends sizes 32 name) where
-        pub later-name : e ≡ true → C.IdentificationMismatch ≡ laterOf code address name s
+      module _ (nd : d ≡ false) (e : Bool) (pe : e ≡ differsAt s count ends sizes 32 «nas_id») where
+        pub later-name : e ≡ true → C.IdentificationMismatch ≡ laterOf code «nas_ip» «nas_id» s
         later-name h = rw (sym pd ∙ nd, sym pe ∙ h) at tests
 
         module _ (ne : e ≡ false) (c : Bool) (pc : c ≡ missingBy code f) where
-          pub later-402 : c ≡ true → C.MissingAttribute ≡ laterOf code address name s
+          pub later-402 : c ≡ true → C.MissingAttribute ≡ laterOf code «nas_ip» «nas_id» s
           later-402 h = rw (sym pd ∙ nd, sym pe ∙ ne, sym pc ∙ h) at tests
 
           module _ (nc : c ≡ false) where
-            pub later-506 : 34 < getD sizes 11 0 → C.ResourcesUnavailable ≡ laterOf code address name s
+            pub later-506 : 34 < getD sizes 11 0 → C.ResourcesUnavailable ≡ laterOf code «nas_ip» «nas_id» s
             later-506 h = rw (sym pd ∙ nd, sym pe ∙ ne, sym pc ∙ nc, lt-ltb _ _ h) at tests
 
-            pub later-none : getD sizes 11 0 ≤ 34 → C.NoCause ≡ laterOf code address name s
+            pub later-none : getD sizes 11 0 ≤ 34 → C.NoCause ≡ laterOf code «nas_ip» «nas_id» s
             later-none h = rw (sym pd ∙ nd, sym pe ∙ ne, sym pc ∙ nc, le-ltb _ _ h) at tests
 
-  whole : cond (f .unsupported) C.UnsupportedAttribute (cond (f .service) C.UnsupportedService (cond (f .repeated || f .misfit) C.InvalidRequest (laterOf code address name s)))
-      ≡ causeOf code address name s
+  whole : cond (f .unsupported) C.UnsupportedAttribute (cond (f .service) C.UnsupportedService (cond (f .repeated || f .misfit) C.InvalidRequest (laterOf code «nas_ip» «nas_id» s)))
+      ≡ causeOf code «nas_ip» «nas_id» s
   unfolding causeOf laterOf invalid
   whole = rw (i .unsupported, i .service, i .repeated, i .misfit)
 
-  pub cause-401 : f .unsupported ≡ true → C.UnsupportedAttribute ≡ causeOf code address name s
+  pub cause-401 : f .unsupported ≡ true → C.UnsupportedAttribute ≡ causeOf code «nas_ip» «nas_id» s
   cause-401 h = rw h at whole
 
   module _ (nu : f .unsupported ≡ false) where
-    pub cause-405 : f .service ≡ true → C.UnsupportedService ≡ causeOf code address name s
+    pub cause-405 : f .service ≡ true → C.UnsupportedService ≡ causeOf code «nas_ip» «nas_id» s
     cause-405 h = rw (nu, h) at whole
 
     module _ (nv : f .service ≡ false) where
-      pub cause-twice : f .repeated ≡ true → C.InvalidRequest ≡ causeOf code address name s
+      pub cause-twice : f .repeated ≡ true → C.InvalidRequest ≡ causeOf code «nas_ip» «nas_id» s
       cause-twice h = rw (nu, nv, h) at whole
 
       module _ (nr : f .repeated ≡ false) where
-        pub cause-length : f .misfit ≡ true → C.InvalidRequest ≡ causeOf code address name s
+        pub cause-length : f .misfit ≡ true → C.InvalidRequest ≡ causeOf code «nas_ip» «nas_id» s
         cause-length h = rw (nu, nv, nr, h) at whole
 
-        pub cause-later : f .misfit ≡ false → (c : D.Cause) → c ≡ laterOf code address name s → c ≡ causeOf code address name s
+        pub cause-later : f .misfit ≡ false → (c : D.Cause) → c ≡ laterOf code «nas_ip» «nas_id» s → c ≡ causeOf code «nas_ip» «nas_id» s
         cause-later h c e = e ∙ rw (nu, nv, nr, h) at whole

@@ -53,9 +53,9 @@ alone C.NoCause a b c d e f p = rw (p .0, p .1, p .2, p .3, p .4, p .5)
 both : (z : D.Cause) (a b c d e f : Bool) → (cascade a b c d e f ≡ z) ↔ standsFor z a b c d e f
 both z a b c d e f = (λ q. subst (λ (y : D.Cause). standsFor y a b c d e f) q (holds a b c d e f), alone z a b c d e f)
 
-pub exactly : (z : D.Cause) (code address : ℕ) (name s : List ℕ)
-    → (causeOf code address name s ≡ z)
-    ↔ standsFor z (any (unsupportedIn code) (attributes s)) (any (kindIs 6) (attributes s)) (invalid s) (any (mismatched address name s) (attributes s)) (missing code s) (any oversized (attributes s))
+pub exactly : (z : D.Cause) (code «nas_ip» : ℕ) («nas_id» s : List ℕ)
+    → (causeOf code «nas_ip» «nas_id» s ≡ z)
+    ↔ standsFor z (any (unsupportedIn code) (attributes s)) (any (kindIs 6) (attributes s)) (invalid s) (any (mismatched «nas_ip» «nas_id» s) (attributes s)) (missing code s) (any oversized (attributes s))
 unfolding causeOf
-exactly z code address name s =
-    both z (any (unsupportedIn code) (attributes s)) (any (kindIs 6) (attributes s)) (invalid s) (any (mismatched address name s) (attributes s)) (missing code s) (any oversized (attributes s))
+exactly z code «nas_ip» «nas_id» s =
+    both z (any (unsupportedIn code) (attributes s)) (any (kindIs 6) (attributes s)) (invalid s) (any (mismatched «nas_ip» «nas_id» s) (attributes s)) (missing code s) (any oversized (attributes s))

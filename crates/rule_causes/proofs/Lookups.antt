@@ -46,10 +46,10 @@ module _ (s : List ℕ) (code : ℕ) (f : Flags) (i : Flagged s code f) where
         (at-differs s own k ends sizes (firstOf (kindIs k) (attributes s)) (kept .types k h ne .end) (kept .types k h ne .size)
         ∙ sym (only (kindIs k) (λ a. not (equalBytes (valueOf s a) own)) (attributes s) (low k ne)))
 
-    pub differ : (address : ℕ) (name : List ℕ) → (differsAt s count ends sizes 4 (beBytes 4 address) || differsAt s count ends sizes 32 name) ≡ any (mismatched address name s) (attributes s)
-    differ address name =
-        rw (differs-any 4 (beBytes 4 address) (lit< tt) (λ e. omega arith), differs-any 32 name (lit< tt) (λ e. omega arith))
-        (sym (any-or (differing s 4 (beBytes 4 address)) (differing s 32 name) (attributes s)))
+    pub differ : («nas_ip» : ℕ) («nas_id» : List ℕ) → (differsAt s count ends sizes 4 (beBytes 4 «nas_ip») || differsAt s count ends sizes 32 «nas_id») ≡ any (mismatched «nas_ip» «nas_id» s) (attributes s)
+    differ «nas_ip» «nas_id» =
+        rw (differs-any 4 (beBytes 4 «nas_ip») (lit< tt) (λ e. omega arith), differs-any 32 «nas_id» (lit< tt) (λ e. omega arith))
+        (sym (any-or (differing s 4 (beBytes 4 «nas_ip»)) (differing s 32 «nas_id») (attributes s)))
 
     pub long-any : ltb 34 (getD sizes 11 0) ≡ any oversized (attributes s)
     long-any =

@@ -58,14 +58,14 @@ first-six s k a misfit e h =
 
 -- ---- no cause
 
-module _ (code address : ℕ) (name s : List ℕ) (q : causeOf code address name s ≡ C.NoCause) where
+module _ (code «nas_ip» : ℕ) («nas_id» s : List ℕ) (q : causeOf code «nas_ip» «nas_id» s ≡ C.NoCause) where
   pub repeated : found (firstRepeated none (attributes s)) ≡ false
   unfolding invalid
-  repeated = neither _ (any misfitting (attributes s)) (exactly C.NoCause code address name s .0 q .2) .0
+  repeated = neither _ (any misfitting (attributes s)) (exactly C.NoCause code «nas_ip» «nas_id» s .0 q .2) .0
 
   pub misfit : any misfitting (attributes s) ≡ false
   unfolding invalid
-  misfit = neither (found (firstRepeated none (attributes s))) _ (exactly C.NoCause code address name s .0 q .2) .1
+  misfit = neither (found (firstRepeated none (attributes s))) _ (exactly C.NoCause code «nas_ip» «nas_id» s .0 q .2) .1
 
   -- every type but 33 stands at most once
   pub once : (k : ℕ) → (k ≡ 33 → ⊥) → countOf (kindIs k) (attributes s) ≤ 1
@@ -73,7 +73,7 @@ module _ (code address : ℕ) (name s : List ℕ) (q : causeOf code address name
 
   module _ (a : Attribute) (m : List·Memᴰ a (attributes s)) where
     pub filter : a .kind ≡ 11 → a .size ≤ 34
-    filter e = ltb-false _ _ (and-first _ _ (eq-eqb _ _ e) (fails oversized (attributes s) (exactly C.NoCause code address name s .0 q .5) a m))
+    filter e = ltb-false _ _ (and-first _ _ (eq-eqb _ _ e) (fails oversized (attributes s) (exactly C.NoCause code «nas_ip» «nas_id» s .0 q .5) a m))
 
   -- the same of the first of a type
   module _ (k : ℕ) (a : Attribute) (e : firstOf (kindIs k) (attributes s) ≡ At a) where

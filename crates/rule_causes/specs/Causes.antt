@@ -8,7 +8,7 @@ use Rattle.octet_numbers.specs.Numbers.{beBytes}
 use Rattle.octet_numbers.specs.Runs.{equalBytes}
 use Rattle.attr_walk.specs.declared.Attribute.{Attribute}
 use Rattle.attr_walk.specs.Attributes.{attributes, valueOf, any, found, kindIs}
-use Rattle.attr_types.specs.Types.{unsupportedIn, misfitting, among, criteria, changes, firstRepeated, none}
+use Rattle.attr_types.specs.Types.{unsupportedIn, misfitting, among, namingTypes, changingTypes, firstRepeated, none}
 use Rattle.rule_causes.specs.declared.Cause as D
 use Rattle.rule_causes.specs.declared.Cause.the-variants as C
 
@@ -39,11 +39,11 @@ abbrev pub differing : List ℕ → ℕ → List ℕ → Attribute → Bool
 differing s k own a = kindIs k a && not (equalBytes (valueOf s a) own)
 
 abbrev pub mismatched : ℕ → List ℕ → List ℕ → Attribute → Bool
-mismatched address name s a = differing s 4 (beBytes 4 address) a || differing s 32 name a
+mismatched «nas_ip» «nas_id» s a = differing s 4 (beBytes 4 «nas_ip») a || differing s 32 «nas_id» a
 
 -- 402: none that names a session, or a CoA with none that changes one
 unfoldable pub missing : ℕ → List ℕ → Bool
-missing code s = not (any (among criteria) (attributes s)) || (eqb code 43 && not (any (among changes) (attributes s)))
+missing code s = not (any (among namingTypes) (attributes s)) || (eqb code 43 && not (any (among changingTypes) (attributes s)))
 
 -- 506: a Filter-Id whose value has more than 32 bytes
 abbrev pub oversized : Attribute → Bool
@@ -55,11 +55,11 @@ invalid s = found (firstRepeated none (attributes s)) || any misfitting (attribu
 
 -- the first cause that applies to the area s of a request of this code, at a gate of this address and name
 unfoldable pub causeOf : ℕ → ℕ → List ℕ → List ℕ → D.Cause
-causeOf code address name s =
+causeOf code «nas_ip» «nas_id» s =
     cond (any (unsupportedIn code) (attributes s)) C.UnsupportedAttribute
     (cond (any (kindIs 6) (attributes s)) C.UnsupportedService
     (cond (invalid s) C.InvalidRequest
-    (cond (any (mismatched address name s) (attributes s)) C.IdentificationMismatch
+    (cond (any (mismatched «nas_ip» «nas_id» s) (attributes s)) C.IdentificationMismatch
     (cond (missing code s) C.MissingAttribute
     (cond (any oversized (attributes s)) C.ResourcesUnavailable
     C.NoCause)))))

@@ -16,8 +16,8 @@ use Rattle.rule_causes.specs.Causes.{mismatched, missing, oversized}
 
 -- 403, 402, 506
 unfoldable pub laterOf : ℕ → ℕ → List ℕ → List ℕ → D.Cause
-laterOf code address name s =
-    cond (any (mismatched address name s) (attributes s)) C.IdentificationMismatch
+laterOf code «nas_ip» «nas_id» s =
+    cond (any (mismatched «nas_ip» «nas_id» s) (attributes s)) C.IdentificationMismatch
     (cond (missing code s) C.MissingAttribute
     (cond (any oversized (attributes s)) C.ResourcesUnavailable
     C.NoCause))

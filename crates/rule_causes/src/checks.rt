@@ -29,12 +29,12 @@ pub fn other_address(
     count: &[u8; 256],
     ends: &[u16; 256],
     sizes: &[u8; 256],
-    address: u32,
+    nas_ip: u32,
 ) -> bool
-    ensures { λ r. ⌜ r ≡ differsAt (now (s .entry)) (now (count .entry)) (now (ends .entry)) (now (sizes .entry)) 4 (beBytes 4 address) ⌝ }
+    ensures { λ r. ⌜ r ≡ differsAt (now (s .entry)) (now (count .entry)) (now (ends .entry)) (now (sizes .entry)) 4 (beBytes 4 «nas_ip») ⌝ }
 {
     let mut own = [0u8; 4];
-    octet_numbers::put_be32(&mut own, 0, address);
+    octet_numbers::put_be32(&mut own, 0, nas_ip);
     other_value(s, count, ends, sizes, NAS_IP_ADDRESS, &own)
 }
 

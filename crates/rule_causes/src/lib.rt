@@ -60,8 +60,8 @@ pub fn applies(cause: Cause) -> bool
 fn later_cause(
     s: &[u8],
     code: u8,
-    address: u32,
-    name: &[u8],
+    nas_ip: u32,
+    nas_id: &[u8],
     f: attr_survey::Flags,
     count: &[u8; 256],
     ends: &[u16; 256],
@@ -69,12 +69,12 @@ fn later_cause(
 ) -> Cause
     requires { ⌜ Flagged (now s) code f × (f .repeated ≡ false) ⌝ }
     requires { ⌜ Kept (now s) (now count) (now ends) (now sizes) ⌝ }
-    ensures { λ r. ⌜ r ≡ laterOf code address (now (name .entry)) (now (s .entry)) ⌝ }
+    ensures { λ r. ⌜ r ≡ laterOf code «nas_ip» (now («nas_id» .entry)) (now (s .entry)) ⌝ }
 {
-    if other_address(s, count, ends, sizes, address) {
+    if other_address(s, count, ends, sizes, nas_ip) {
         return Cause::IdentificationMismatch;
     }
-    if other_value(s, count, ends, sizes, NAS_IDENTIFIER, name) {
+    if other_value(s, count, ends, sizes, NAS_IDENTIFIER, nas_id) {
         return Cause::IdentificationMismatch;
     }
     if missing(code, f) {
@@ -90,15 +90,15 @@ fn later_cause(
 pub fn first_cause(
     s: &[u8],
     code: u8,
-    address: u32,
-    name: &[u8],
+    nas_ip: u32,
+    nas_id: &[u8],
     f: attr_survey::Flags,
     count: &[u8; 256],
     ends: &[u16; 256],
     sizes: &[u8; 256],
 ) -> Cause
     requires { ⌜ Flagged (now s) code f × Kept (now s) (now count) (now ends) (now sizes) ⌝ }
-    ensures { λ r. ⌜ r ≡ causeOf code address (now (name .entry)) (now (s .entry)) ⌝ }
+    ensures { λ r. ⌜ r ≡ causeOf code «nas_ip» (now («nas_id» .entry)) (now (s .entry)) ⌝ }
 {
     if f.unsupported {
         return Cause::UnsupportedAttribute;
@@ -112,5 +112,5 @@ pub fn first_cause(
     if f.misfit {
         return Cause::InvalidRequest;
     }
-    later_cause(s, code, address, name, f, count, ends, sizes)
+    later_cause(s, code, nas_ip, nas_id, f, count, ends, sizes)
 }

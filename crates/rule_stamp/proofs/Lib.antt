@@ -1,3 +1,3 @@
-pub mod Kept
+pub mod StampKept
 pub mod Signed
 pub mod Distances

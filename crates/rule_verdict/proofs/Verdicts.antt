@@ -37,10 +37,10 @@ pub signed-law : (secret p : List ℕ) (n : ℕ) (r : Bool) → Sized p n → r 
 unfolding signedBy
 signed-law secret p n r z e = e ∙ rw (z .is)
 
-pub fresh-law : (address : ℕ) (name s p : List ℕ) (k skew : ℤ) (c : Cause) (r : D.Verdict) → s ≡ areaOf p → c ≡ causeOf (codeOf p) address name s → r ≡ nakOr k c → k ≡ skew
-    → r ≡ freshVerdict address name p skew
+pub fresh-law : («nas_ip» : ℕ) («nas_id» s p : List ℕ) (k skew : ℤ) (c : Cause) (r : D.Verdict) → s ≡ areaOf p → c ≡ causeOf (codeOf p) «nas_ip» «nas_id» s → r ≡ nakOr k c → k ≡ skew
+    → r ≡ freshVerdict «nas_ip» «nas_id» p skew
 unfolding freshVerdict
-fresh-law address name s p k skew c r e i h j = h ∙ rw (i, e, j)
+fresh-law «nas_ip» «nas_id» s p k skew c r e i h j = h ∙ rw (i, e, j)
 
 -- D4 to D6 in their order: b is what the test of D5 says, x the stamp
 module _ (g : Settings) (p : List ℕ) (clock : ℕ) where
@@ -64,7 +64,7 @@ module _ (g : Settings) (p : List ℕ) (clock : ℕ) where
         check-stale h k i = rw (yes-signed, ← is, right, ← area, ← stamp, usable, ← lateness, h, i)
 
         -- k′ is k as the machine holds it
-        pub check-fresh : late ≡ false → (k k′ : ℤ) → k ≡ skewOf v clock → k′ ≡ k → (r : D.Verdict) → r ≡ freshVerdict (g .address) (g .name) p k′ → r ≡ checkVerdict g signed p clock
+        pub check-fresh : late ≡ false → (k k′ : ℤ) → k ≡ skewOf v clock → k′ ≡ k → (r : D.Verdict) → r ≡ freshVerdict (g .«nas_ip») (g .«nas_id») p k′ → r ≡ checkVerdict g signed p clock
         unfolding checkVerdict
         check-fresh h k k′ i l r j = rw (yes-signed, ← is, right, ← area, ← stamp, usable, ← lateness, h, ← i, ← l) j
 

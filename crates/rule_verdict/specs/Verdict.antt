@@ -24,12 +24,12 @@ nakOr skew c = cond (applies c) (Nak c skew) (Passed skew)
 
 -- causes 1 to 6 of a fresh request
 unfoldable pub freshVerdict : ℕ → List ℕ → List ℕ → ℤ → D.Verdict
-freshVerdict address name p skew = nakOr skew (causeOf (codeOf p) address name (areaOf p))
+freshVerdict «nas_ip» «nas_id» p skew = nakOr skew (causeOf (codeOf p) «nas_ip» «nas_id» (areaOf p))
 
 -- D6: no usable stamp; or a stale one, whose skew is told; else the causes
 abbrev pub stampVerdict : Settings → List ℕ → ℕ → S.Stamp → D.Verdict
 stampVerdict g p clock Unusable = Discarded 6
-stampVerdict g p clock (Usable v) = cond (stale v clock) (Stale (skewOf v clock)) (freshVerdict (g .address) (g .name) p (skewOf v clock))
+stampVerdict g p clock (Usable v) = cond (stale v clock) (Stale (skewOf v clock)) (freshVerdict (g .«nas_ip») (g .«nas_id») p (skewOf v clock))
 
 -- D4 to D6 and causes 1 to 6 of a request that meets none of D1 to D3; `signed` says that D4 does not apply
 unfoldable pub checkVerdict : Settings → Bool → List ℕ → ℕ → D.Verdict

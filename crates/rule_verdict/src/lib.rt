@@ -23,8 +23,8 @@ pub fn check(
     n: usize,
     signed: bool,
     secret: &[u8],
-    address: u32,
-    name: &[u8],
+    nas_ip: u32,
+    nas_id: &[u8],
     clock: u32,
     f: attr_survey::Flags,
     count: &[u8; 256],
@@ -33,7 +33,7 @@ pub fn check(
 ) -> Verdict
     requires { ⌜ Sized (now p) n ⌝ }
     requires { ⌜ Flagged (areaOf (now p)) (codeOf (now p)) f × Kept (areaOf (now p)) (now count) (now ends) (now sizes) ⌝ }
-    ensures { λ r. ⌜ r ≡ checkVerdict (settings (now (secret .entry)) address (now (name .entry))) «signed» (now (p .entry)) clock ⌝ }
+    ensures { λ r. ⌜ r ≡ checkVerdict (settings (now (secret .entry)) «nas_ip» (now («nas_id» .entry))) «signed» (now (p .entry)) clock ⌝ }
 {
     if signed {
         if packet_mac::bad_request_mac(p, n, secret, count, ends, sizes) {
@@ -49,7 +49,7 @@ pub fn check(
                 if rule_stamp::stale(v, clock) {
                     return Verdict::Stale(skew);
                 }
-                return nak::fresh(p, s, address, name, skew, f, count, ends, sizes);
+                return nak::fresh(p, s, nas_ip, nas_id, skew, f, count, ends, sizes);
             }
         }
     }

@@ -20,8 +20,8 @@ fn nak_or(cause: rule_causes::Cause, skew: i64) -> super::Verdict
 pub fn fresh(
     p: &[u8],
     s: &[u8],
-    address: u32,
-    name: &[u8],
+    nas_ip: u32,
+    nas_id: &[u8],
     skew: i64,
     f: attr_survey::Flags,
     count: &[u8; 256],
@@ -30,8 +30,8 @@ pub fn fresh(
 ) -> super::Verdict
     requires { ⌜ (0 < length (now p)) × (now s ≡ areaOf (now p)) ⌝ }
     requires { ⌜ Flagged (areaOf (now p)) (codeOf (now p)) f × Kept (areaOf (now p)) (now count) (now ends) (now sizes) ⌝ }
-    ensures { λ r. ⌜ r ≡ freshVerdict address (now (name .entry)) (now (p .entry)) skew ⌝ }
+    ensures { λ r. ⌜ r ≡ freshVerdict «nas_ip» (now («nas_id» .entry)) (now (p .entry)) skew ⌝ }
 {
-    let cause = rule_causes::first_cause(s, p[0], address, name, f, count, ends, sizes);
+    let cause = rule_causes::first_cause(s, p[0], nas_ip, nas_id, f, count, ends, sizes);
     nak_or(cause, skew)
 }

@@ -13,8 +13,8 @@ pub fn verdict(
     p: &[u8],
     n: usize,
     secret: &[u8],
-    address: u32,
-    name: &[u8],
+    nas_ip: u32,
+    nas_id: &[u8],
     clock: u32,
     count: &mut [u8; 256],
     ends: &mut [u16; 256],
@@ -22,7 +22,7 @@ pub fn verdict(
 ) -> crate::Verdict
     requires { ⌜ Sized (now p) n ⌝ }
     requires { ⌜ (now count ≡ zeros) × (now ends ≡ zeros) × (now sizes ≡ zeros) ⌝ }
-    ensures { λ r. ⌜ r ≡ checkVerdict (settings (now (secret .entry)) address (now (name .entry))) «signed» (now (p .entry)) clock ⌝ }
+    ensures { λ r. ⌜ r ≡ checkVerdict (settings (now (secret .entry)) «nas_ip» (now («nas_id» .entry))) «signed» (now (p .entry)) clock ⌝ }
     ensures { λ _. ⌜ Kept (areaOf (now (p .entry))) (now (count .exit)) (now (ends .exit)) (now (sizes .exit)) ⌝ }
 {
     let s = octet_runs::slice(p, 20, n - 20);
@@ -32,8 +32,8 @@ pub fn verdict(
         n,
         signed,
         secret,
-        address,
-        name,
+        nas_ip,
+        nas_id,
         clock,
         f,
         &*count,

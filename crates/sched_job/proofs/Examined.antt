@@ -11,7 +11,7 @@ use Rattle.attr_types.specs.Types.{firstRepeated, none}
 use Rattle.attr_survey.specs.Survey.{Kept}
 use Rattle.table_criteria.specs.declared.Criterion.{Criterion}
 use Rattle.table_slots.specs.Slot.{slot, slotCount}
-use Rattle.table_criteria.specs.Matching.{matchesAt}
+use Rattle.table_criteria.specs.Meets.{matchesAt}
 use Rattle.table_slots.proofs.Count.{counted}
 use Rattle.packet_form.specs.Packet.{areaOf}
 use Rattle.das_effects.specs.Taken.{takenCriteria}

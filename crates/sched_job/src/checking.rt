@@ -24,17 +24,17 @@ impl Job {
         self,
         q: &[u8],
         secret: &[u8],
-        address: u32,
-        name: &[u8],
+        nas_ip: u32,
+        nas_id: &[u8],
         reply: &mut [u8],
     ) -> Moved
         requires { ⌜ 4096 ≤ length (now reply) ⌝ }
-        ensures { λ r. ⌜ r ≡ checkMove (settings (now (secret .entry)) address (now (name .entry))) self (now (q .entry)) ⌝ }
+        ensures { λ r. ⌜ r ≡ checkMove (settings (now (secret .entry)) «nas_ip» (now («nas_id» .entry))) self (now (q .entry)) ⌝ }
         ensures { λ r. ⌜ now (reply .exit) ≡ replyAfter (now (secret .entry)) (now (q .entry)) (now (reply .entry)) (r .ending) ⌝ }
     {
         let words = self.words;
         let n = self.length;
-        let x = sched_reread::check::check(words, q, n, secret, address, name, self.clock, reply);
+        let x = sched_reread::check::check(words, q, n, secret, nas_ip, nas_id, self.clock, reply);
         checked(self, x)
     }
 }

@@ -45,28 +45,28 @@ pub fn make(
     marks: &mut [[u8; 64]; 4],
     kept: &mut [u8],
     size: &mut usize,
-    address: &mut u32,
+    nas_ip: &mut u32,
     own: &mut [u8],
     label: &mut usize,
     secret: &[u8],
     ip: u32,
-    name: &[u8],
+    nas_id: &[u8],
 ) -> u32
     requires { ⌜ (length (now kept) ≡ 64) × (length (now own) ≡ 32) ⌝ }
-    ensures { λ r. ⌜ r ≡ makeRefusal (settings (now (secret .entry)) ip (now (name .entry))) ⌝ }
-    ensures { λ _. ⌜ held (now (words .exit)) (now (kinds .exit)) (now (places .exit)) (now (marks .exit)) (now (kept .exit)) (now (size .exit)) (now (address .exit)) (now (own .exit)) (now (label .exit)) ≡ makeLeft (settings (now (secret .entry)) ip (now (name .entry))) (held (now (words .entry)) (now (kinds .entry)) (now (places .entry)) (now (marks .entry)) (now (kept .entry)) (now (size .entry)) (now (address .entry)) (now (own .entry)) (now (label .entry))) ⌝ }
+    ensures { λ r. ⌜ r ≡ makeRefusal (settings (now (secret .entry)) ip (now («nas_id» .entry))) ⌝ }
+    ensures { λ _. ⌜ held (now (words .exit)) (now (kinds .exit)) (now (places .exit)) (now (marks .exit)) (now (kept .exit)) (now (size .exit)) (now («nas_ip» .exit)) (now (own .exit)) (now (label .exit)) ≡ makeLeft (settings (now (secret .entry)) ip (now («nas_id» .entry))) (held (now (words .entry)) (now (kinds .entry)) (now (places .entry)) (now (marks .entry)) (now (kept .entry)) (now (size .entry)) (now («nas_ip» .entry)) (now (own .entry)) (now (label .entry))) ⌝ }
 {
     if nas_settings::bad_secret(secret) {
         return 2;
     }
-    if nas_settings::bad_name(name) {
+    if nas_settings::bad_nas_id(nas_id) {
         return 3;
     }
     free_all(words, kinds, places, marks);
     keep(kept, secret);
-    keep(own, name);
+    keep(own, nas_id);
     *size = secret.len();
-    *address = ip;
-    *label = name.len();
+    *nas_ip = ip;
+    *label = nas_id.len();
     0
 }

@@ -37,12 +37,12 @@ module _ (j : Job) (q t : List ℕ) (k m : ℕ) (is : m ≡ slotCount t) where
 
 -- ---- by the re-reading
 
-module _ (secret name q t : List ℕ) (address k : ℕ) (j : Job) (count ends sizes : List ℕ) (x : D.Again) (shown : Shown address name (j .length) q count ends sizes x) where
-  pub gone-move : x ≡ Gone → (r : Moved) → r ≡ done (A.Discarded 1) → r ≡ slotMove (settings secret address name) j k q t
+module _ (secret «nas_id» q t : List ℕ) («nas_ip» k : ℕ) (j : Job) (count ends sizes : List ℕ) (x : D.Again) (shown : Shown «nas_ip» «nas_id» (j .length) q count ends sizes x) where
+  pub gone-move : x ≡ Gone → (r : Moved) → r ≡ done (A.Discarded 1) → r ≡ slotMove (settings secret «nas_ip» «nas_id») j k q t
   unfolding slotMove Shown
   gone-move h r e = e ∙ rw ((rw h at shown) secret)
 
-  pub gone-table : x ≡ Gone → t ≡ slotTable (settings secret address name) j k q t
+  pub gone-table : x ≡ Gone → t ≡ slotTable (settings secret «nas_ip» «nas_id») j k q t
   unfolding slotTable Shown
   gone-table h = rw ((rw h at shown) secret)
 
@@ -51,10 +51,10 @@ module _ (secret name q t : List ℕ) (address k : ℕ) (j : Job) (count ends si
     unfolding Shown
     held-stands = (rw h at shown) .1
 
-    pub held-move : (r : Moved) → r ≡ cond (ltb k (slotCount t)) (going (matchJob j k q t)) (commitMove j q t) → r ≡ slotMove (settings secret address name) j k q t
+    pub held-move : (r : Moved) → r ≡ cond (ltb k (slotCount t)) (going (matchJob j k q t)) (commitMove j q t) → r ≡ slotMove (settings secret «nas_ip» «nas_id») j k q t
     unfolding slotMove Shown
     held-move r e = e ∙ rw ((rw h at shown) .0 secret)
 
-    pub held-table : (u : List ℕ) → u ≡ cond (ltb k (slotCount t)) t (commitTable q (j .marks) t) → u ≡ slotTable (settings secret address name) j k q t
+    pub held-table : (u : List ℕ) → u ≡ cond (ltb k (slotCount t)) t (commitTable q (j .marks) t) → u ≡ slotTable (settings secret «nas_ip» «nas_id») j k q t
     unfolding slotTable Shown
     held-table u e = e ∙ rw ((rw h at shown) .0 secret)

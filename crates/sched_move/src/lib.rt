@@ -45,21 +45,21 @@ fn at_slot(
     k: usize,
     q: &[u8],
     secret: &[u8],
-    address: u32,
-    name: &[u8],
+    nas_ip: u32,
+    nas_id: &[u8],
     t: &mut [u8],
     reply: &mut [u8],
 ) -> Moved
     requires { ⌜ 4096 ≤ length (now reply) ⌝ }
-    ensures { λ r. ⌜ r ≡ slotMove (settings (now (secret .entry)) address (now (name .entry))) j k (now (q .entry)) (now (t .entry)) ⌝ }
-    ensures { λ r. ⌜ now (t .exit) ≡ slotTable (settings (now (secret .entry)) address (now (name .entry))) j k (now (q .entry)) (now (t .entry)) ⌝ }
+    ensures { λ r. ⌜ r ≡ slotMove (settings (now (secret .entry)) «nas_ip» (now («nas_id» .entry))) j k (now (q .entry)) (now (t .entry)) ⌝ }
+    ensures { λ r. ⌜ now (t .exit) ≡ slotTable (settings (now (secret .entry)) «nas_ip» (now («nas_id» .entry))) j k (now (q .entry)) (now (t .entry)) ⌝ }
     ensures { λ r. ⌜ now (reply .exit) ≡ replyAfter (now (secret .entry)) (now (q .entry)) (now (reply .entry)) (r .ending) ⌝ }
 {
     let mut count = [0u8; 256];
     let mut ends = [0u16; 256];
     let mut sizes = [0u8; 256];
     let n = j.length;
-    match sched_reread::passed(n, q, address, name, &mut count, &mut ends, &mut sizes) {
+    match sched_reread::passed(n, q, nas_ip, nas_id, &mut count, &mut ends, &mut sizes) {
         Again::Gone => sched_job::done(das_answer::Answer::Discarded(1)),
         Again::Held(stamp) => match_or_commit(
             j,
@@ -81,14 +81,14 @@ pub fn step(
     j: Job,
     q: &[u8],
     secret: &[u8],
-    address: u32,
-    name: &[u8],
+    nas_ip: u32,
+    nas_id: &[u8],
     t: &mut [u8],
     reply: &mut [u8],
 ) -> Moved
     requires { ⌜ JobOurs (length (now secret)) j × (length (now secret) ≤ 64) × (length (now q) ≡ 4096) × (4096 ≤ length (now reply)) ⌝ }
-    ensures { λ r. ⌜ r ≡ moved (settings (now (secret .entry)) address (now (name .entry))) j (now (q .entry)) (now (t .entry)) ⌝ }
-    ensures { λ r. ⌜ now (t .exit) ≡ movedTable (settings (now (secret .entry)) address (now (name .entry))) j (now (q .entry)) (now (t .entry)) ⌝ }
+    ensures { λ r. ⌜ r ≡ moved (settings (now (secret .entry)) «nas_ip» (now («nas_id» .entry))) j (now (q .entry)) (now (t .entry)) ⌝ }
+    ensures { λ r. ⌜ now (t .exit) ≡ movedTable (settings (now (secret .entry)) «nas_ip» (now («nas_id» .entry))) j (now (q .entry)) (now (t .entry)) ⌝ }
     ensures { λ r. ⌜ now (reply .exit) ≡ replyAfter (now (secret .entry)) (now (q .entry)) (now (reply .entry)) (r .ending) ⌝ }
     ensures { λ r. ⌜ JobOurs (length (now (secret .entry))) (r .job) ⌝ }
 {
@@ -96,7 +96,7 @@ pub fn step(
     match stage {
         Stage::Free => sched_job::going(j),
         Stage::Hash(k) => sched_job::going(j.hash(k, q, secret)),
-        Stage::Check => j.check(q, secret, address, name, reply),
-        Stage::Match(k) => at_slot(j, k, q, secret, address, name, t, reply),
+        Stage::Check => j.check(q, secret, nas_ip, nas_id, reply),
+        Stage::Match(k) => at_slot(j, k, q, secret, nas_ip, nas_id, t, reply),
     }
 }

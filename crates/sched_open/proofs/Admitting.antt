@@ -54,11 +54,11 @@ module _ (f : ℕ → Bool) (j : ℕ) (store : List ℕ) (lowest : j ≡ lowestF
 
 -- ---- what is answered and left
 
-module _ (ws ks ps ms : List (List ℕ)) (secret : List ℕ) (size address : ℕ) (name : List ℕ) (label : ℕ) (p : List ℕ) (clock : ℕ) (store : List ℕ)
+module _ (ws ks ps ms : List (List ℕ)) (secret : List ℕ) (size «nas_ip» : ℕ) («nas_id» : List ℕ) (label : ℕ) (p : List ℕ) (clock : ℕ) (store : List ℕ)
     (z j r : ℕ) (read : z ≡ secretIn size) (lowest : j ≡ lowestFree (openAt (jobsIn z ws ks ps ms)))
     (is : (f : ℕ → Bool) → j ≡ lowestFree f → r ≡ openRefusal f (length store)) where
   abbrev before : Held
-  before = held ws ks ps ms secret size address name label
+  before = held ws ks ps ms secret size «nas_ip» «nas_id» label
 
   at-first : r ≡ openRefusal (openAt (schedulerIn before .jobs)) (length store)
   at-first = is (openAt (jobsIn z ws ks ps ms)) lowest ∙ rw read
@@ -72,7 +72,7 @@ module _ (ws ks ps ms : List (List ℕ)) (secret : List ℕ) (size address : ℕ
     refused-number = rw (← at-first, ne-eqb _ _ some)
 
     pub refused-left : (ws′ ks′ ps′ ms′ : List (List ℕ)) → ws′ ≡ ws → ks′ ≡ ks → ps′ ≡ ps → ms′ ≡ ms
-        → held ws′ ks′ ps′ ms′ secret size address name label ≡ openLeft before p clock store
+        → held ws′ ks′ ps′ ms′ secret size «nas_ip» «nas_id» label ≡ openLeft before p clock store
     unfolding openCalled leftBy
     refused-left ws′ ks′ ps′ ms′ ew ek ep em = rw (ew, ek, ep, em, ← at-first, ne-eqb _ _ some)
 
@@ -91,7 +91,7 @@ module _ (ws ks ps ms : List (List ℕ)) (secret : List ℕ) (size address : ℕ
       discarded-number = rw (← at-first, eq-eqb _ _ none, ← form, ne-eqb _ _ bad)
 
       pub discarded-left : (ws′ ks′ ps′ ms′ : List (List ℕ)) → ws′ ≡ ws → ks′ ≡ ks → ps′ ≡ ps → ms′ ≡ ms
-          → held ws′ ks′ ps′ ms′ secret size address name label ≡ openLeft before p clock store
+          → held ws′ ks′ ps′ ms′ secret size «nas_ip» «nas_id» label ≡ openLeft before p clock store
       unfolding openCalled leftBy
       discarded-left ws′ ks′ ps′ ms′ ew ek ep em = rw (ew, ek, ep, em, ← at-first, eq-eqb _ _ none, ← form, ne-eqb _ _ bad)
 
@@ -119,7 +119,7 @@ module _ (ws ks ps ms : List (List ℕ)) (secret : List ℕ) (size address : ℕ
 
         pub opened-left : (ws′ ks′ ps′ ms′ : List (List ℕ)) → ws′ ≡ set ws j (firstJob n clock .words) → ks′ ≡ set ks j (kindRow (firstJob n clock))
             → ps′ ≡ set ps j (placeRow (firstJob n clock)) → ms′ ≡ set ms j (firstJob n clock .marks)
-            → held ws′ ks′ ps′ ms′ secret size address name label ≡ openLeft before p clock store
+            → held ws′ ks′ ps′ ms′ secret size «nas_ip» «nas_id» label ≡ openLeft before p clock store
         unfolding openCalled leftBy
         opened-left ws′ ks′ ps′ ms′ ew ek ep em =
             rw (← at-first, eq-eqb _ _ none, ← form, eq-eqb _ _ good, ← the-lowest, ← (sized .is), ew, ek, ep, em)

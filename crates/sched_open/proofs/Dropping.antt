@@ -25,10 +25,10 @@ pub above-left : (h : Held) (j : ℕ) → 3 < j → h ≡ dropLeft h j
 unfolding dropCalled dropRefusal leftBy
 above-left h j l = rw (lt-ltb 3 j l)
 
-module _ (ws ks ps ms : List (List ℕ)) (secret : List ℕ) (size address : ℕ) (name : List ℕ) (label z j : ℕ) (b : Bool)
+module _ (ws ks ps ms : List (List ℕ)) (secret : List ℕ) (size «nas_ip» : ℕ) («nas_id» : List ℕ) (label z j : ℕ) (b : Bool)
     (read : z ≡ secretIn size) (is : b ≡ openAt (jobsIn z ws ks ps ms) j) (low : j ≤ 3) where
   abbrev before : Held
-  before = held ws ks ps ms secret size address name label
+  before = held ws ks ps ms secret size «nas_ip» «nas_id» label
 
   pub free-number : b ≡ false → 7 ≡ numberBy (dropCalled (schedulerIn before) j .outcome)
   unfolding dropCalled dropRefusal numberBy toldBy answerTold
@@ -44,6 +44,6 @@ module _ (ws ks ps ms : List (List ℕ)) (secret : List ℕ) (size address : ℕ
 
   pub open-left : b ≡ true → (ws′ ks′ ps′ ms′ : List (List ℕ)) (x : Job) → x ≡ freeJob
       → ws′ ≡ set ws j (x .words) → ks′ ≡ set ks j (kindRow x) → ps′ ≡ set ps j (placeRow x) → ms′ ≡ set ms j (x .marks)
-      → held ws′ ks′ ps′ ms′ secret size address name label ≡ dropLeft before j
+      → held ws′ ks′ ps′ ms′ secret size «nas_ip» «nas_id» label ≡ dropLeft before j
   unfolding dropCalled dropRefusal leftBy
   open-left h ws′ ks′ ps′ ms′ x free ew ek ep em = rw (le-ltb 3 j low, ← read, ← is, h, ew, ek, ep, em, free)

@@ -56,8 +56,8 @@ pub fn open(
     marks: &mut [[u8; 64]],
     secret: &[u8],
     size: usize,
-    address: u32,
-    name: &[u8],
+    nas_ip: u32,
+    nas_id: &[u8],
     label: usize,
     p: &[u8],
     clock: u32,
@@ -65,10 +65,10 @@ pub fn open(
     job: &mut u32,
 ) -> u32
     requires { ⌜ (length (now words) ≡ 4) × (length (now kinds) ≡ 4) × (length (now places) ≡ 4) × (length (now marks) ≡ 4) ⌝ }
-    ensures { λ r. ⌜ r ≡ numberBy (openCalled (schedulerIn (held (now (words .entry)) (now (kinds .entry)) (now (places .entry)) (now (marks .entry)) (now (secret .entry)) size address (now (name .entry)) label)) (now (p .entry)) clock (now (store .entry)) .outcome) ⌝ }
-    ensures { λ _. ⌜ held (now (words .exit)) (now (kinds .exit)) (now (places .exit)) (now (marks .exit)) (now (secret .entry)) size address (now (name .entry)) label ≡ openLeft (held (now (words .entry)) (now (kinds .entry)) (now (places .entry)) (now (marks .entry)) (now (secret .entry)) size address (now (name .entry)) label) (now (p .entry)) clock (now (store .entry)) ⌝ }
-    ensures { λ _. ⌜ now (store .exit) ≡ openStore (schedulerIn (held (now (words .entry)) (now (kinds .entry)) (now (places .entry)) (now (marks .entry)) (now (secret .entry)) size address (now (name .entry)) label)) (now (p .entry)) (now (store .entry)) ⌝ }
-    ensures { λ _. ⌜ now (job .exit) ≡ placeBy (openCalled (schedulerIn (held (now (words .entry)) (now (kinds .entry)) (now (places .entry)) (now (marks .entry)) (now (secret .entry)) size address (now (name .entry)) label)) (now (p .entry)) clock (now (store .entry)) .outcome) (now (job .entry)) ⌝ }
+    ensures { λ r. ⌜ r ≡ numberBy (openCalled (schedulerIn (held (now (words .entry)) (now (kinds .entry)) (now (places .entry)) (now (marks .entry)) (now (secret .entry)) size «nas_ip» (now («nas_id» .entry)) label)) (now (p .entry)) clock (now (store .entry)) .outcome) ⌝ }
+    ensures { λ _. ⌜ held (now (words .exit)) (now (kinds .exit)) (now (places .exit)) (now (marks .exit)) (now (secret .entry)) size «nas_ip» (now («nas_id» .entry)) label ≡ openLeft (held (now (words .entry)) (now (kinds .entry)) (now (places .entry)) (now (marks .entry)) (now (secret .entry)) size «nas_ip» (now («nas_id» .entry)) label) (now (p .entry)) clock (now (store .entry)) ⌝ }
+    ensures { λ _. ⌜ now (store .exit) ≡ openStore (schedulerIn (held (now (words .entry)) (now (kinds .entry)) (now (places .entry)) (now (marks .entry)) (now (secret .entry)) size «nas_ip» (now («nas_id» .entry)) label)) (now (p .entry)) (now (store .entry)) ⌝ }
+    ensures { λ _. ⌜ now (job .exit) ≡ placeBy (openCalled (schedulerIn (held (now (words .entry)) (now (kinds .entry)) (now (places .entry)) (now (marks .entry)) (now (secret .entry)) size «nas_ip» (now («nas_id» .entry)) label)) (now (p .entry)) clock (now (store .entry)) .outcome) (now (job .entry)) ⌝ }
 {
     let z = sched_rows::reading::secret_in(size);
     let j = sched_rows::reading::lowest_free(words, kinds, places, marks, z);
@@ -94,14 +94,14 @@ pub fn drop(
     marks: &mut [[u8; 64]],
     secret: &[u8],
     size: usize,
-    address: u32,
-    name: &[u8],
+    nas_ip: u32,
+    nas_id: &[u8],
     label: usize,
     j: usize,
 ) -> u32
     requires { ⌜ (length (now words) ≡ 4) × (length (now kinds) ≡ 4) × (length (now places) ≡ 4) × (length (now marks) ≡ 4) ⌝ }
-    ensures { λ r. ⌜ r ≡ numberBy (dropCalled (schedulerIn (held (now (words .entry)) (now (kinds .entry)) (now (places .entry)) (now (marks .entry)) (now (secret .entry)) size address (now (name .entry)) label)) j .outcome) ⌝ }
-    ensures { λ _. ⌜ held (now (words .exit)) (now (kinds .exit)) (now (places .exit)) (now (marks .exit)) (now (secret .entry)) size address (now (name .entry)) label ≡ dropLeft (held (now (words .entry)) (now (kinds .entry)) (now (places .entry)) (now (marks .entry)) (now (secret .entry)) size address (now (name .entry)) label) j ⌝ }
+    ensures { λ r. ⌜ r ≡ numberBy (dropCalled (schedulerIn (held (now (words .entry)) (now (kinds .entry)) (now (places .entry)) (now (marks .entry)) (now (secret .entry)) size «nas_ip» (now («nas_id» .entry)) label)) j .outcome) ⌝ }
+    ensures { λ _. ⌜ held (now (words .exit)) (now (kinds .exit)) (now (places .exit)) (now (marks .exit)) (now (secret .entry)) size «nas_ip» (now («nas_id» .entry)) label ≡ dropLeft (held (now (words .entry)) (now (kinds .entry)) (now (places .entry)) (now (marks .entry)) (now (secret .entry)) size «nas_ip» (now («nas_id» .entry)) label) j ⌝ }
 {
     if 3 < j {
         return 7;

@@ -63,19 +63,19 @@ and-true : (a : Bool) → a ≡ (a && true)
 and-true true = refl
 and-true false = refl
 
-module _ (s name : List ℕ) (code address : ℕ) (count ends sizes : List ℕ) (i : Kept s count ends sizes) where
-  odd-kept : causeOf code address name s ≡ K.NoCause → (seenAt count 80 && not (eqb (getD sizes 80 0) 18)) ≡ any oddMac (attributes s)
+module _ (s «nas_id» : List ℕ) (code «nas_ip» : ℕ) (count ends sizes : List ℕ) (i : Kept s count ends sizes) where
+  odd-kept : causeOf code «nas_ip» «nas_id» s ≡ K.NoCause → (seenAt count 80 && not (eqb (getD sizes 80 0) 18)) ≡ any oddMac (attributes s)
   odd-kept h =
       let ne : _≡_ {A = ℕ} 80 33 → ⊥ = λ e. omega arith in
       ap (λ (b : Bool). b && not (eqb (getD sizes 80 0) 18)) (seen-any s count ends sizes i 80 (lit< tt) ne)
       ∙ odd-first (firstOf (kindIs 80) (attributes s)) (getD sizes 80 0) (i .types 80 (lit< tt) ne .size)
-      ∙ sym (only (kindIs 80) (λ a. not (eqb (a .size) 18)) (attributes s) (once code address name s h 80 ne))
+      ∙ sym (only (kindIs 80) (λ a. not (eqb (a .size) 18)) (attributes s) (once code «nas_ip» «nas_id» s h 80 ne))
 
-  module _ (c : C.Cause) (is : c ≡ causeOf code address name s) (b : Bool) (test : b ≡ applies c) where
-    pub objected : b ≡ true → false ≡ (not (any oddMac (attributes s)) && not (applies (causeOf code address name s)))
+  module _ (c : C.Cause) (is : c ≡ causeOf code «nas_ip» «nas_id» s) (b : Bool) (test : b ≡ applies c) where
+    pub objected : b ≡ true → false ≡ (not (any oddMac (attributes s)) && not (applies (causeOf code «nas_ip» «nas_id» s)))
     objected h = rw (← is, ← test, h) (and-false (not (any oddMac (attributes s))))
 
-    pub unobjected-by : b ≡ false → (r : Bool) → r ≡ not (seenAt count 80 && not (eqb (getD sizes 80 0) 18)) → r ≡ (not (any oddMac (attributes s)) && not (applies (causeOf code address name s)))
+    pub unobjected-by : b ≡ false → (r : Bool) → r ≡ not (seenAt count 80 && not (eqb (getD sizes 80 0) 18)) → r ≡ (not (any oddMac (attributes s)) && not (applies (causeOf code «nas_ip» «nas_id» s)))
     unobjected-by h r e =
         let none : applies c ≡ false = sym test ∙ h in
         e ∙ ap not (odd-kept (sym is ∙ none-applies c none)) ∙ rw (← is, none) (and-true (not (any oddMac (attributes s))))

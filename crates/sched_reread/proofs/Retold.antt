@@ -52,44 +52,44 @@ module _ (n : ℕ) (q : List ℕ) (b : Bool) (is : b ≡ holds n q) (h : b ≡ t
   pub held-long : 20 ≤ length q
   held-long = omega (arith, held-low, held-given)
 
-pub gone-passed : (name q count ends sizes : List ℕ) (address n : ℕ) (b : Bool) → b ≡ holds n q → b ≡ false → Shown address name n q count ends sizes Gone
+pub gone-passed : («nas_id» q count ends sizes : List ℕ) («nas_ip» n : ℕ) (b : Bool) → b ≡ holds n q → b ≡ false → Shown «nas_ip» «nas_id» n q count ends sizes Gone
 unfolding holdsPassed Shown
-gone-passed name q count ends sizes address n b is h = λ secret. rw (← is, h)
+gone-passed «nas_id» q count ends sizes «nas_ip» n b is h = λ secret. rw (← is, h)
 
 -- ---- the rest
 
-module _ (name s q : List ℕ) (address n : ℕ) (count ends sizes : List ℕ) (sized : Sized q n) (form : formOf q ≡ 0) (area : s ≡ areaOf q) (x : Stamp) (stamp : x ≡ stampOf s) where
+module _ («nas_id» s q : List ℕ) («nas_ip» n : ℕ) (count ends sizes : List ℕ) (sized : Sized q n) (form : formOf q ≡ 0) (area : s ≡ areaOf q) (x : Stamp) (stamp : x ≡ stampOf s) where
   held : holds n q ≡ true
   unfolding holds
   held = rw (form, eq-eqb _ _ (sym (sized .is)))
 
-  pub gone-stamp : x ≡ Unusable → Shown address name n q count ends sizes Gone
+  pub gone-stamp : x ≡ Unusable → Shown «nas_ip» «nas_id» n q count ends sizes Gone
   unfolding holdsPassed Shown
   gone-stamp h = λ secret. rw (held, ← area, ← stamp, h)
 
-  module _ (v : ℕ) (usable : x ≡ Usable v) (b : Bool) (is : b ≡ (not (any oddMac (attributes s)) && not (applies (causeOf (codeOf q) address name s)))) where
-    passed-by : (secret : List ℕ) → holdsPassed (settings secret address name) n q ≡ b
+  module _ (v : ℕ) (usable : x ≡ Usable v) (b : Bool) (is : b ≡ (not (any oddMac (attributes s)) && not (applies (causeOf (codeOf q) «nas_ip» «nas_id» s)))) where
+    passed-by : (secret : List ℕ) → holdsPassed (settings secret «nas_ip» «nas_id») n q ≡ b
     unfolding holdsPassed
     passed-by secret = rw (held, ← area, ← stamp, usable, ← is)
 
-    pub gone-objected : b ≡ false → Shown address name n q count ends sizes Gone
+    pub gone-objected : b ≡ false → Shown «nas_ip» «nas_id» n q count ends sizes Gone
     unfolding Shown
     gone-objected h = λ secret. passed-by secret ∙ h
 
     stands : Kept s count ends sizes → b ≡ true → Stands n q v count ends sizes
     stands i h =
         let two = and-both _ _ (sym is ∙ h) in
-        let none : causeOf (codeOf q) address name s ≡ NoCause = none-applies _ (not-true _ (two .1)) in
+        let none : causeOf (codeOf q) «nas_ip» «nas_id» s ≡ NoCause = none-applies _ (not-true _ (two .1)) in
         record {
           sized = sized;
           form = form;
           kept = rw (← area) i;
           stamp = rw (← area) (sym stamp ∙ usable);
           plain = rw (← area) (not-true _ (two .0));
-          fits = rw (← area) (misfit (codeOf q) address name s none);
-          once = rw (← area) (repeated (codeOf q) address name s none);
+          fits = rw (← area) (misfit (codeOf q) «nas_ip» «nas_id» s none);
+          once = rw (← area) (repeated (codeOf q) «nas_ip» «nas_id» s none);
         }
 
-    pub held-told : Kept s count ends sizes → b ≡ true → Shown address name n q count ends sizes (Held v)
+    pub held-told : Kept s count ends sizes → b ≡ true → Shown «nas_ip» «nas_id» n q count ends sizes (Held v)
     unfolding Shown
     held-told i h = (λ secret. passed-by secret ∙ h, stands i h)

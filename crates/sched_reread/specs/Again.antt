@@ -28,5 +28,5 @@ pub record Stands (n : ℕ) (q : List ℕ) (v : ℕ) (count ends sizes : List �
 
 -- what the re-reading tells; the secret plays no part
 unfoldable pub Shown : ℕ → List ℕ → ℕ → List ℕ → List ℕ → List ℕ → List ℕ → D.Again → Type 0
-Shown address name n q count ends sizes Gone = (secret : List ℕ) → holdsPassed (settings secret address name) n q ≡ false
-Shown address name n q count ends sizes (Held v) = ((secret : List ℕ) → holdsPassed (settings secret address name) n q ≡ true) × Stands n q v count ends sizes
+Shown «nas_ip» «nas_id» n q count ends sizes Gone = (secret : List ℕ) → holdsPassed (settings secret «nas_ip» «nas_id») n q ≡ false
+Shown «nas_ip» «nas_id» n q count ends sizes (Held v) = ((secret : List ℕ) → holdsPassed (settings secret «nas_ip» «nas_id») n q ≡ true) × Stands n q v count ends sizes

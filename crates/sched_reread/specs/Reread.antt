@@ -34,4 +34,4 @@ holdsPassed g n q =
     holds n q
     && (usable (stampOf (areaOf q))
     && (not (any oddMac (attributes (areaOf q)))
-    && not (applies (causeOf (codeOf q) (g .address) (g .name) (areaOf q)))))
+    && not (applies (causeOf (codeOf q) (g .«nas_ip») (g .«nas_id») (areaOf q)))))

@@ -12,13 +12,13 @@ pub fn check(
     q: &[u8],
     n: usize,
     secret: &[u8],
-    address: u32,
-    name: &[u8],
+    nas_ip: u32,
+    nas_id: &[u8],
     clock: u32,
     reply: &mut [u8],
 ) -> Judged
     requires { ⌜ 4096 ≤ length (now reply) ⌝ }
-    ensures { λ r. ⌜ r ≡ storeJudged (settings (now (secret .entry)) address (now (name .entry))) words n clock (now (q .entry)) ⌝ }
+    ensures { λ r. ⌜ r ≡ storeJudged (settings (now (secret .entry)) «nas_ip» (now («nas_id» .entry))) words n clock (now (q .entry)) ⌝ }
     ensures { λ r. ⌜ now (reply .exit) ≡ replyJudged (now (secret .entry)) (now (q .entry)) (now (reply .entry)) r ⌝ }
 {
     if crate::holds(n, q) {
@@ -31,8 +31,8 @@ pub fn check(
             q,
             n,
             secret,
-            address,
-            name,
+            nas_ip,
+            nas_id,
             clock,
             reply,
             &mut count,

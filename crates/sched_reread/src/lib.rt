@@ -44,17 +44,17 @@ fn plain_mac(count: &[u8; 256], sizes: &[u8; 256]) -> bool
 fn unobjected(
     s: &[u8],
     code: u8,
-    address: u32,
-    name: &[u8],
+    nas_ip: u32,
+    nas_id: &[u8],
     f: attr_survey::Flags,
     count: &[u8; 256],
     ends: &[u16; 256],
     sizes: &[u8; 256],
 ) -> bool
     requires { ⌜ Flagged (now s) code f × Kept (now s) (now count) (now ends) (now sizes) ⌝ }
-    ensures { λ r. ⌜ r ≡ not (any oddMac (attributes (now (s .entry)))) && not (applies (causeOf code address (now (name .entry)) (now (s .entry)))) ⌝ }
+    ensures { λ r. ⌜ r ≡ not (any oddMac (attributes (now (s .entry)))) && not (applies (causeOf code «nas_ip» (now («nas_id» .entry)) (now (s .entry)))) ⌝ }
 {
-    let cause = rule_causes::first_cause(s, code, address, name, f, count, ends, sizes);
+    let cause = rule_causes::first_cause(s, code, nas_ip, nas_id, f, count, ends, sizes);
     if rule_causes::applies(cause) {
         return false;
     }
@@ -66,8 +66,8 @@ fn judged(
     s: &[u8],
     n: usize,
     q: &[u8],
-    address: u32,
-    name: &[u8],
+    nas_ip: u32,
+    nas_id: &[u8],
     f: attr_survey::Flags,
     count: &[u8; 256],
     ends: &[u16; 256],
@@ -75,12 +75,12 @@ fn judged(
 ) -> Again
     requires { ⌜ Sized (now q) n × (formOf (now q) ≡ 0) × (now s ≡ areaOf (now q)) ⌝ }
     requires { ⌜ Flagged (now s) (codeOf (now q)) f × Kept (now s) (now count) (now ends) (now sizes) ⌝ }
-    ensures { λ r. ⌜ Shown address (now (name .entry)) n (now (q .entry)) (now (count .entry)) (now (ends .entry)) (now (sizes .entry)) r ⌝ }
+    ensures { λ r. ⌜ Shown «nas_ip» (now («nas_id» .entry)) n (now (q .entry)) (now (count .entry)) (now (ends .entry)) (now (sizes .entry)) r ⌝ }
 {
     match rule_stamp::stamp_of(s, count, ends, sizes) {
         rule_stamp::Stamp::Unusable => Again::Gone,
         rule_stamp::Stamp::Usable(stamp) => {
-            if unobjected(s, q[0], address, name, f, count, ends, sizes) {
+            if unobjected(s, q[0], nas_ip, nas_id, f, count, ends, sizes) {
                 return Again::Held(stamp);
             }
             Again::Gone
@@ -92,36 +92,36 @@ fn judged(
 fn scanned(
     n: usize,
     q: &[u8],
-    address: u32,
-    name: &[u8],
+    nas_ip: u32,
+    nas_id: &[u8],
     count: &mut [u8; 256],
     ends: &mut [u16; 256],
     sizes: &mut [u8; 256],
 ) -> Again
     requires { ⌜ Sized (now q) n × (formOf (now q) ≡ 0) ⌝ }
     requires { ⌜ (now count ≡ zeros) × (now ends ≡ zeros) × (now sizes ≡ zeros) ⌝ }
-    ensures { λ r. ⌜ Shown address (now (name .entry)) n (now (q .entry)) (now (count .exit)) (now (ends .exit)) (now (sizes .exit)) r ⌝ }
+    ensures { λ r. ⌜ Shown «nas_ip» (now («nas_id» .entry)) n (now (q .entry)) (now (count .exit)) (now (ends .exit)) (now (sizes .exit)) r ⌝ }
 {
     let s = octet_runs::slice(q, 20, n - 20);
     let f = attr_survey::survey(s, q[0], &mut *count, &mut *ends, &mut *sizes);
-    judged(s, n, q, address, name, f, &*count, &*ends, &*sizes)
+    judged(s, n, q, nas_ip, nas_id, f, &*count, &*ends, &*sizes)
 }
 
 // The store read again for Match and Commit, with what a pass over the attributes keeps.
 pub fn passed(
     n: usize,
     q: &[u8],
-    address: u32,
-    name: &[u8],
+    nas_ip: u32,
+    nas_id: &[u8],
     count: &mut [u8; 256],
     ends: &mut [u16; 256],
     sizes: &mut [u8; 256],
 ) -> Again
     requires { ⌜ (now count ≡ zeros) × (now ends ≡ zeros) × (now sizes ≡ zeros) ⌝ }
-    ensures { λ r. ⌜ Shown address (now (name .entry)) n (now (q .entry)) (now (count .exit)) (now (ends .exit)) (now (sizes .exit)) r ⌝ }
+    ensures { λ r. ⌜ Shown «nas_ip» (now («nas_id» .entry)) n (now (q .entry)) (now (count .exit)) (now (ends .exit)) (now (sizes .exit)) r ⌝ }
 {
     if holds(n, q) {
-        return scanned(n, q, address, name, count, ends, sizes);
+        return scanned(n, q, nas_ip, nas_id, count, ends, sizes);
     }
     Again::Gone
 }

@@ -29,7 +29,7 @@ pub in-out : (s : D.Scheduler) → Ours s → schedulerIn (heldOf s) ≡ s
 unfolding heldOf
 in-out s h =
     let size = inside 1 64 (s .«secret_size») (h .secret-low) (h .secret-high) in
-    let name = inside 1 32 (s .«name_size») (h .name-low) (h .name-high) in
+    let «nas_id» = inside 1 32 (s .«nas_id_size») (h .name-low) (h .name-high) in
     let js = s .jobs in
     let jobs =
     ap (λ (z : ℕ). jobsIn z (map (λ (b : B.Job). b .words) js) (map kindRow js) (map placeRow js) (map (λ (b : B.Job). b .marks) js)) (sym size)
@@ -38,7 +38,7 @@ in-out s h =
       jobs = jobs i;
       secret = s .secret;
       «secret_size» = sym size i;
-      address = s .address;
-      name = s .name;
-      «name_size» = sym name i;
+      «nas_ip» = s .«nas_ip»;
+      «nas_id» = s .«nas_id»;
+      «nas_id_size» = sym «nas_id» i;
     }

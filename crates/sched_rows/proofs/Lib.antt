@@ -1,5 +1,5 @@
 pub mod Ranges
-pub mod Kept
+pub mod ReadOurs
 pub mod Rows
 pub mod Restarts
 mod Lowest

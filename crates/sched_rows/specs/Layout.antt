@@ -20,13 +20,13 @@ pub record Held : Type 0 where
   pub marks : List (List ℕ)
   pub secret : List ℕ
   pub secretSize : ℕ
-  pub address : ℕ
-  pub name : List ℕ
+  pub «nas_ip» : ℕ
+  pub «nas_id» : List ℕ
   pub nameSize : ℕ
 
 abbrev pub held : List (List ℕ) → List (List ℕ) → List (List ℕ) → List (List ℕ) → List ℕ → ℕ → ℕ → List ℕ → ℕ → Held
-held ws ks ps ms secret size address name label =
-    record { words = ws; kinds = ks; places = ps; marks = ms; secret = secret; secretSize = size; address = address; name = name; nameSize = label }
+held ws ks ps ms secret size «nas_ip» «nas_id» label =
+    record { words = ws; kinds = ks; places = ps; marks = ms; secret = secret; secretSize = size; «nas_ip» = «nas_ip»; «nas_id» = «nas_id»; nameSize = label }
 
 -- the number of a stage, and its place
 abbrev pub kindOf : S.Stage → ℕ
@@ -52,7 +52,7 @@ placeRow b = placeOf (b .stage) ∷ b .length ∷ []
 unfoldable pub heldOf : D.Scheduler → Held
 heldOf s =
     held (map (λ (b : B.Job). b .words) (s .jobs)) (map kindRow (s .jobs)) (map placeRow (s .jobs)) (map (λ (b : B.Job). b .marks) (s .jobs))
-    (s .secret) (s .«secret_size») (s .address) (s .name) (s .«name_size»)
+    (s .secret) (s .«secret_size») (s .«nas_ip») (s .«nas_id») (s .«nas_id_size»)
 
 -- block `place` of a message of Length n and a secret of `size` bytes is still to hash
 unfoldable pub blockIn : ℕ → ℕ → ℕ → Bool
@@ -86,8 +86,8 @@ between low high n = cond (ltb n low) low (cond (ltb high n) high n)
 abbrev pub secretIn : ℕ → ℕ
 secretIn n = between 1 64 n
 
-abbrev pub nameIn : ℕ → ℕ
-nameIn n = between 1 32 n
+abbrev pub nasIdIn : ℕ → ℕ
+nasIdIn n = between 1 32 n
 
 -- the scheduler that C holds
 abbrev pub schedulerIn : Held → D.Scheduler
@@ -96,7 +96,7 @@ schedulerIn h =
       jobs = jobsIn (secretIn (h .secretSize)) (h .words) (h .kinds) (h .places) (h .marks);
       secret = h .secret;
       «secret_size» = secretIn (h .secretSize);
-      address = h .address;
-      name = h .name;
-      «name_size» = nameIn (h .nameSize);
+      «nas_ip» = h .«nas_ip»;
+      «nas_id» = h .«nas_id»;
+      «nas_id_size» = nasIdIn (h .nameSize);
     }

@@ -22,7 +22,7 @@ use Rattle.sched_rows.specs.Layout.{Held, held, heldOf, kindRow, placeRo
 abbrev pub putJob : Held → ℕ → B.Job → Held
 putJob h j b =
     held (set (h .words) j (b .words)) (set (h .kinds) j (kindRow b)) (set (h .places) j (placeRow b)) (set (h .marks) j (b .marks))
-    (h .secret) (h .secretSize) (h .address) (h .name) (h .nameSize)
+    (h .secret) (h .secretSize) (h .«nas_ip») (h .«nas_id») (h .nameSize)
 
 -- job j is in Match or awaits Commit, by its kind
 abbrev pub pastCheck : List (List ℕ) → ℕ → Bool
@@ -45,7 +45,7 @@ restartMarks ks ms = restartMark ks 3 (restartMark ks 2 (restartMark ks 1 (resta
 abbrev pub restartHeld : Held → Held
 restartHeld h =
     held (h .words) (h .kinds) (restartPlaces (h .kinds) (h .places)) (restartMarks (h .kinds) (h .marks))
-    (h .secret) (h .secretSize) (h .address) (h .name) (h .nameSize)
+    (h .secret) (h .secretSize) (h .«nas_ip») (h .«nas_id») (h .nameSize)
 
 -- by a call's answer; b is the job that it leaves, j the number that it was given
 unfoldable pub leftBy : O.Outcome → ℕ → B.Job → Held → Held

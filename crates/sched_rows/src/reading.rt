@@ -3,7 +3,7 @@ ghost use mathlib.Core.Path.{_≡_};
 ghost use Prim.Native.Nat.{_≤_, _<_};
 ghost use lib.ListN.{length};
 ghost use Rattle.sched_state.specs.Scheduler.{jobAt, openAt, lowestFree};
-ghost use Rattle.sched_rows.specs.Layout.{between, secretIn, nameIn, blockIn, stageIn, jobsIn};
+ghost use Rattle.sched_rows.specs.Layout.{between, secretIn, nasIdIn, blockIn, stageIn, jobsIn};
 
 // n brought between low and high.
 fn between(low: usize, high: usize, n: usize) -> usize
@@ -25,8 +25,8 @@ pub fn secret_in(n: usize) -> usize
     between(1, 64, n)
 }
 
-pub fn name_in(n: usize) -> usize
-    ensures { λ r. ⌜ (r ≡ nameIn n) × (r ≤ 32) ⌝ }
+pub fn nas_id_in(n: usize) -> usize
+    ensures { λ r. ⌜ (r ≡ nasIdIn n) × (r ≤ 32) ⌝ }
 {
     between(1, 32, n)
 }

@@ -16,8 +16,8 @@ pub fn start(
     marks: &mut [[u8; 64]],
     secret: &[u8],
     size: usize,
-    address: u32,
-    name: &[u8],
+    nas_ip: u32,
+    nas_id: &[u8],
     label: usize,
     t: &mut [u8],
     port: u32,
@@ -31,10 +31,10 @@ pub fn start(
     slot: &mut u32,
 ) -> u32
     requires { ⌜ (length (now kinds) ≡ 4) × (length (now places) ≡ 4) × (length (now marks) ≡ 4) ⌝ }
-    ensures { λ r. ⌜ r ≡ numberBy (startCalled (schedulerIn (held (now (words .entry)) (now (kinds .entry)) (now (places .entry)) (now (marks .entry)) (now (secret .entry)) size address (now (name .entry)) label)) (sessionOf port framed timeout idle (now (user .entry)) (now (id .entry)) (now (station .entry)) (now (filter .entry))) (now (t .entry)) .outcome) ⌝ }
-    ensures { λ _. ⌜ held (now (words .entry)) (now (kinds .entry)) (now (places .exit)) (now (marks .exit)) (now (secret .entry)) size address (now (name .entry)) label ≡ startLeft (held (now (words .entry)) (now (kinds .entry)) (now (places .entry)) (now (marks .entry)) (now (secret .entry)) size address (now (name .entry)) label) (sessionOf port framed timeout idle (now (user .entry)) (now (id .entry)) (now (station .entry)) (now (filter .entry))) (now (t .entry)) ⌝ }
+    ensures { λ r. ⌜ r ≡ numberBy (startCalled (schedulerIn (held (now (words .entry)) (now (kinds .entry)) (now (places .entry)) (now (marks .entry)) (now (secret .entry)) size «nas_ip» (now («nas_id» .entry)) label)) (sessionOf port framed timeout idle (now (user .entry)) (now (id .entry)) (now (station .entry)) (now (filter .entry))) (now (t .entry)) .outcome) ⌝ }
+    ensures { λ _. ⌜ held (now (words .entry)) (now (kinds .entry)) (now (places .exit)) (now (marks .exit)) (now (secret .entry)) size «nas_ip» (now («nas_id» .entry)) label ≡ startLeft (held (now (words .entry)) (now (kinds .entry)) (now (places .entry)) (now (marks .entry)) (now (secret .entry)) size «nas_ip» (now («nas_id» .entry)) label) (sessionOf port framed timeout idle (now (user .entry)) (now (id .entry)) (now (station .entry)) (now (filter .entry))) (now (t .entry)) ⌝ }
     ensures { λ _. ⌜ now (t .exit) ≡ insertTable (sessionOf port framed timeout idle (now (user .entry)) (now (id .entry)) (now (station .entry)) (now (filter .entry))) (now (t .entry)) ⌝ }
-    ensures { λ _. ⌜ now (slot .exit) ≡ placeBy (startCalled (schedulerIn (held (now (words .entry)) (now (kinds .entry)) (now (places .entry)) (now (marks .entry)) (now (secret .entry)) size address (now (name .entry)) label)) (sessionOf port framed timeout idle (now (user .entry)) (now (id .entry)) (now (station .entry)) (now (filter .entry))) (now (t .entry)) .outcome) (now (slot .entry)) ⌝ }
+    ensures { λ _. ⌜ now (slot .exit) ≡ placeBy (startCalled (schedulerIn (held (now (words .entry)) (now (kinds .entry)) (now (places .entry)) (now (marks .entry)) (now (secret .entry)) size «nas_ip» (now («nas_id» .entry)) label)) (sessionOf port framed timeout idle (now (user .entry)) (now (id .entry)) (now (station .entry)) (now (filter .entry))) (now (t .entry)) .outcome) (now (slot .entry)) ⌝ }
 {
     match table_sessions::insert(t, port, framed, timeout, idle, user, id, station, filter) {
         table_sessions::Inserted::Slot(k) => {
@@ -54,15 +54,15 @@ pub fn end(
     marks: &mut [[u8; 64]],
     secret: &[u8],
     size: usize,
-    address: u32,
-    name: &[u8],
+    nas_ip: u32,
+    nas_id: &[u8],
     label: usize,
     t: &mut [u8],
     k: usize,
 ) -> u32
     requires { ⌜ (length (now kinds) ≡ 4) × (length (now places) ≡ 4) × (length (now marks) ≡ 4) ⌝ }
-    ensures { λ r. ⌜ r ≡ numberBy (endCalled (schedulerIn (held (now (words .entry)) (now (kinds .entry)) (now (places .entry)) (now (marks .entry)) (now (secret .entry)) size address (now (name .entry)) label)) k (now (t .entry)) .outcome) ⌝ }
-    ensures { λ _. ⌜ held (now (words .entry)) (now (kinds .entry)) (now (places .exit)) (now (marks .exit)) (now (secret .entry)) size address (now (name .entry)) label ≡ endLeft (held (now (words .entry)) (now (kinds .entry)) (now (places .entry)) (now (marks .entry)) (now (secret .entry)) size address (now (name .entry)) label) k (now (t .entry)) ⌝ }
+    ensures { λ r. ⌜ r ≡ numberBy (endCalled (schedulerIn (held (now (words .entry)) (now (kinds .entry)) (now (places .entry)) (now (marks .entry)) (now (secret .entry)) size «nas_ip» (now («nas_id» .entry)) label)) k (now (t .entry)) .outcome) ⌝ }
+    ensures { λ _. ⌜ held (now (words .entry)) (now (kinds .entry)) (now (places .exit)) (now (marks .exit)) (now (secret .entry)) size «nas_ip» (now («nas_id» .entry)) label ≡ endLeft (held (now (words .entry)) (now (kinds .entry)) (now (places .entry)) (now (marks .entry)) (now (secret .entry)) size «nas_ip» (now («nas_id» .entry)) label) k (now (t .entry)) ⌝ }
     ensures { λ _. ⌜ now (t .exit) ≡ removeTable k (now (t .entry)) ⌝ }
 {
     match table_sessions::remove(t, k) {

@@ -8,7 +8,7 @@ use native.Mathlib.Omega.{arith}
 use lib.ListN.{length, take, replicate, length-replicate}
 use Rattle.octet_numbers.specs.Runs.{write}
 use Rattle.octet_numbers.proofs.Write.{length-write, take-write}
-use Rattle.nas_settings.specs.Settings.{Settings, badSecret, badName}
+use Rattle.nas_settings.specs.Settings.{Settings, badSecret, badNasId}
 use Rattle.sched_job.specs.Job.{freeJob, JobOurs}
 use Rattle.sched_state.specs.Scheduler.{settingsOf, jobAt, Ours}
 use Rattle.sched_state.specs.Refusals.{makeRefusal}
@@ -21,7 +21,7 @@ neither false true h = absurd (omega arith)
 neither false false h = (refl, refl)
 
 -- R2 and R3 do not apply
-pub good : (g : Settings) → makeRefusal g ≡ 0 → (badSecret (g .secret) ≡ false) × (badName (g .name) ≡ false)
+pub good : (g : Settings) → makeRefusal g ≡ 0 → (badSecret (g .secret) ≡ false) × (badNasId (g .«nas_id») ≡ false)
 unfolding makeRefusal
 good g h = neither _ _ h
 
@@ -45,7 +45,7 @@ pub made-settings : (g : Settings) → makeRefusal g ≡ 0 → settingsOf (madeO
 unfolding madeOf
 made-settings g h =
     let fits = good g h in
-    rw (kept 64 (g .secret) (secret-sized (g .secret) (fits .0) .1), kept 32 (g .name) (name-sized (g .name) (fits .1) .1))
+    rw (kept 64 (g .secret) (secret-sized (g .secret) (fits .0) .1), kept 32 (g .«nas_id») (name-sized (g .«nas_id») (fits .1) .1))
 
 pub made-ours : (g : Settings) → makeRefusal g ≡ 0 → Ours (madeOf g)
 unfolding madeOf
@@ -54,10 +54,10 @@ made-ours g h =
     record {
       secret-low = secret-sized (g .secret) (fits .0) .0;
       secret-high = secret-sized (g .secret) (fits .0) .1;
-      name-low = name-sized (g .name) (fits .1) .0;
-      name-high = name-sized (g .name) (fits .1) .1;
+      name-low = name-sized (g .«nas_id») (fits .1) .0;
+      name-high = name-sized (g .«nas_id») (fits .1) .1;
       secret-room = length-write (replicate 64 0) 0 (g .secret) ∙ length-replicate {A = ℕ} 64 0;
-      name-room = length-write (replicate 32 0) 0 (g .name) ∙ length-replicate {A = ℕ} 32 0;
+      name-room = length-write (replicate 32 0) 0 (g .«nas_id») ∙ length-replicate {A = ℕ} 32 0;
       four = refl;
       each = free-each (length (g .secret));
     }

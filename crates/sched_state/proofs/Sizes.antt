@@ -8,7 +8,7 @@ use native.Mathlib.Omega.{arith}
 use borrow.Author.Tests.{ltb-false, eqb-false}
 use lib.Dec.{eqb, ltb}
 use lib.ListN.{length}
-use Rattle.nas_settings.specs.Settings.{badSecret, badName}
+use Rattle.nas_settings.specs.Settings.{badSecret, badNasId}
 
 at-most : (n m : ℕ) (a b : Bool) → eqb n 0 ≡ a → ltb m n ≡ b → (a || b) ≡ false → (1 ≤ n) × (n ≤ m)
 at-most n m true b zero over h = absurd (true≢false h)
@@ -19,12 +19,12 @@ pub secret-sized : (secret : List ℕ) → badSecret secret ≡ false → (1 ≤
 unfolding badSecret
 secret-sized secret h = at-most (length secret) 64 _ _ refl refl h
 
-pub name-sized : (name : List ℕ) → badName name ≡ false → (1 ≤ length name) × (length name ≤ 32)
-unfolding badName
-name-sized name h = at-most (length name) 32 _ _ refl refl h
+pub name-sized : («nas_id» : List ℕ) → badNasId «nas_id» ≡ false → (1 ≤ length «nas_id») × (length «nas_id» ≤ 32)
+unfolding badNasId
+name-sized «nas_id» h = at-most (length «nas_id») 32 _ _ refl refl h
 
 pub secret-fits : (secret : List ℕ) (b : Bool) → b ≡ badSecret secret → b ≡ false → length secret ≤ 64
 secret-fits secret b is h = secret-sized secret (sym is ∙ h) .1
 
-pub name-fits : (name : List ℕ) (b : Bool) → b ≡ badName name → b ≡ false → length name ≤ 32
-name-fits name b is h = name-sized name (sym is ∙ h) .1
+pub name-fits : («nas_id» : List ℕ) (b : Bool) → b ≡ badNasId «nas_id» → b ≡ false → length «nas_id» ≤ 32
+name-fits «nas_id» b is h = name-sized «nas_id» (sym is ∙ h) .1

@@ -13,7 +13,7 @@ madeOf g =
       jobs = replicate 4 freeJob;
       secret = write (replicate 64 0) 0 (g .secret);
       «secret_size» = length (g .secret);
-      address = g .address;
-      name = write (replicate 32 0) 0 (g .name);
-      «name_size» = length (g .name);
+      «nas_ip» = g .«nas_ip»;
+      «nas_id» = write (replicate 32 0) 0 (g .«nas_id»);
+      «nas_id_size» = length (g .«nas_id»);
     }

@@ -7,12 +7,12 @@ use Prim.Native.Nat.{ℕ}
 use lib.Dec.{eqb, ltb}
 use lib.ListN.{length}
 use Rattle.table_slots.specs.Slot.{slotCount}
-use Rattle.nas_settings.specs.Settings.{Settings, badSecret, badName}
+use Rattle.nas_settings.specs.Settings.{Settings, badSecret, badNasId}
 use Rattle.sched_state.specs.Scheduler.{lowestFree}
 
 -- making: R2, R3
 unfoldable pub makeRefusal : Settings → ℕ
-makeRefusal g = cond (badSecret (g .secret)) 2 (cond (badName (g .name)) 3 0)
+makeRefusal g = cond (badSecret (g .secret)) 2 (cond (badNasId (g .«nas_id»)) 3 0)
 
 -- opening: R5 packet store not 16,384 bytes, R6 no free job
 unfoldable pub openRefusal : (ℕ → Bool) → ℕ → ℕ

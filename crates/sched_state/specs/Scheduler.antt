@@ -13,7 +13,7 @@ use Rattle.sched_state.specs.declared.Scheduler as D
 
 -- what it was made with
 abbrev pub settingsOf : D.Scheduler → Settings
-settingsOf s = settings (take (s .«secret_size») (s .secret)) (s .address) (take (s .«name_size») (s .name))
+settingsOf s = settings (take (s .«secret_size») (s .secret)) (s .«nas_ip») (take (s .«nas_id_size») (s .«nas_id»))
 
 -- job number j; any other number is a free one
 abbrev pub jobAt : List B.Job → ℕ → B.Job
@@ -28,7 +28,7 @@ lowestFree f = cond (f 0) (cond (f 1) (cond (f 2) (cond (f 3) 4 3) 2) 1) 0
 
 -- the same scheduler with other jobs
 abbrev pub withJobs : D.Scheduler → List B.Job → D.Scheduler
-withJobs s js = record { jobs = js; secret = s .secret; «secret_size» = s .«secret_size»; address = s .address; name = s .name; «name_size» = s .«name_size» }
+withJobs s js = record { jobs = js; secret = s .secret; «secret_size» = s .«secret_size»; «nas_ip» = s .«nas_ip»; «nas_id» = s .«nas_id»; «nas_id_size» = s .«nas_id_size» }
 
 abbrev pub withJob : D.Scheduler → ℕ → B.Job → D.Scheduler
 withJob s j b = withJobs s (set (s .jobs) j b)
@@ -45,9 +45,9 @@ partOf j store = part (j * 4096) 4096 store
 pub record Ours (s : D.Scheduler) : Type 0 where
   pub secret-low : 1 ≤ s .«secret_size»
   pub secret-high : s .«secret_size» ≤ 64
-  pub name-low : 1 ≤ s .«name_size»
-  pub name-high : s .«name_size» ≤ 32
+  pub name-low : 1 ≤ s .«nas_id_size»
+  pub name-high : s .«nas_id_size» ≤ 32
   pub secret-room : length (s .secret) ≡ 64
-  pub name-room : length (s .name) ≡ 32
+  pub name-room : length (s .«nas_id») ≡ 32
   pub four : length (s .jobs) ≡ 4
   pub each : (j : ℕ) → JobOurs (s .«secret_size») (jobAt (s .jobs) j)

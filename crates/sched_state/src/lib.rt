@@ -1,14 +1,14 @@
 // The scheduler (document 01's desk): four requests in work, each in small steps. These are the words in which its calls are defined (specs/Calls.antt). The calls
 // themselves take it as C holds it, in arrays that are lent (crate sched_rows).
 
-// Four jobs; the secret and the gate's identity, fixed when it is made: the first secret_size and name_size bytes count.
+// Four jobs; the secret and the gate's identity, fixed when it is made: the first secret_size and nas_id_size bytes count.
 pub struct Scheduler {
     pub jobs: [sched_job::Job; 4],
     pub secret: [u8; 64],
     pub secret_size: usize,
-    pub address: u32,
-    pub name: [u8; 32],
-    pub name_size: usize,
+    pub nas_ip: u32,
+    pub nas_id: [u8; 32],
+    pub nas_id_size: usize,
 }
 
 // What a call answers: an R number; at opening a D number or the job; of a step that it goes on or what it came to; of a start the slot.

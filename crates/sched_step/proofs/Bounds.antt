@@ -125,7 +125,7 @@ unfolding moved
 moved-small g j q t = at-small g (j .stage) j q t
 
 -- a step's answer, in the words of the rows
-pub rows-small : (secret : List ℕ) (address : ℕ) (name : List ℕ) (ws ks ps ms : List (List ℕ)) (j : ℕ) (q t : List ℕ) (e : E.Ending)
-    → e ≡ rowsMoved secret address name ws ks ps ms j q t .ending → SmallEnd e
-rows-small secret address name ws ks ps ms j q t e is =
-    subst (λ (x : E.Ending). SmallEnd x) (sym is) (moved-small (settings secret address name) (jobAt (jobsIn (length secret) ws ks ps ms) j) q t)
+pub rows-small : (secret : List ℕ) («nas_ip» : ℕ) («nas_id» : List ℕ) (ws ks ps ms : List (List ℕ)) (j : ℕ) (q t : List ℕ) (e : E.Ending)
+    → e ≡ rowsMoved secret «nas_ip» «nas_id» ws ks ps ms j q t .ending → SmallEnd e
+rows-small secret «nas_ip» «nas_id» ws ks ps ms j q t e is =
+    subst (λ (x : E.Ending). SmallEnd x) (sym is) (moved-small (settings secret «nas_ip» «nas_id») (jobAt (jobsIn (length secret) ws ks ps ms) j) q t)

@@ -51,10 +51,10 @@ stamped-short q Unusable c e u z m = absurd (false≢true u)
 pub passed-short : (g : Settings) (n : ℕ) (q : List ℕ) → holdsPassed g n q ≡ true → (c : C.Cause) → replyLength q c ≤ 4096
 unfolding holdsPassed
 passed-short g n q h c =
-    let p = and-both (holds n q) (usable (stampOf (areaOf q)) && (not (any oddMac (attributes (areaOf q))) && not (applies (causeOf (codeOf q) (g .address) (g .name) (areaOf q))))) h in
-    let u = and-both (usable (stampOf (areaOf q))) (not (any oddMac (attributes (areaOf q))) && not (applies (causeOf (codeOf q) (g .address) (g .name) (areaOf q)))) (p .1) in
-    let w = and-both (not (any oddMac (attributes (areaOf q)))) (not (applies (causeOf (codeOf q) (g .address) (g .name) (areaOf q)))) (u .1) in
-    let none : causeOf (codeOf q) (g .address) (g .name) (areaOf q) ≡ NoCause = none-applies _ (not-true _ (w .1)) in
-    let few = at-most-once (attributes (areaOf q)) (repeated (codeOf q) (g .address) (g .name) (areaOf q) none) 80 (λ e. omega arith) in
+    let p = and-both (holds n q) (usable (stampOf (areaOf q)) && (not (any oddMac (attributes (areaOf q))) && not (applies (causeOf (codeOf q) (g .«nas_ip») (g .«nas_id») (areaOf q))))) h in
+    let u = and-both (usable (stampOf (areaOf q))) (not (any oddMac (attributes (areaOf q))) && not (applies (causeOf (codeOf q) (g .«nas_ip») (g .«nas_id») (areaOf q)))) (p .1) in
+    let w = and-both (not (any oddMac (attributes (areaOf q)))) (not (applies (causeOf (codeOf q) (g .«nas_ip») (g .«nas_id») (areaOf q)))) (u .1) in
+    let none : causeOf (codeOf q) (g .«nas_ip») (g .«nas_id») (areaOf q) ≡ NoCause = none-applies _ (not-true _ (w .1)) in
+    let few = at-most-once (attributes (areaOf q)) (repeated (codeOf q) (g .«nas_ip») (g .«nas_id») (areaOf q) none) 80 (λ e. omega arith) in
     stamped-short q (stampOf (areaOf q)) c refl (u .0) (holds-form n q (p .0))
     (λ f. right-first (firstOf (kindIs 80) (attributes (areaOf q))) (sym (only (kindIs 80) (λ a. not (eqb (a .size) 18)) (attributes (areaOf q)) few) ∙ not-true _ (w .0)) f)

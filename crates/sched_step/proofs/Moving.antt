@@ -16,7 +16,7 @@ use Rattle.sched_job.specs.Moves.{moved, movedTable}
 use Rattle.sched_state.specs.Scheduler.{jobAt, partOf}
 use Rattle.sched_rows.specs.Layout.{kindRow, placeRow, jobsIn}
 use Rattle.sched_rows.specs.Left.{restartPlaces, restartMarks}
-use Rattle.sched_rows.proofs.Kept.{each-ours}
+use Rattle.sched_rows.proofs.ReadOurs.{each-ours}
 use Rattle.sched_step.specs.Moved.{rowsMoved, ackBy, placesAfter, marksAfter}
 
 -- ---- read
@@ -25,12 +25,12 @@ module _ (secret : List ℕ) (ws ks ps ms : List (List ℕ)) (j : ℕ) (b : B.Jo
   pub job-fits : JobOurs (length secret) b
   job-fits = rw is (each-ours (length secret) ws ks ps ms j)
 
-  module _ (address : ℕ) (name q t : List ℕ) where
-    pub read-moved : (m : M.Moved) → m ≡ moved (settings secret address name) b q t → m ≡ rowsMoved secret address name ws ks ps ms j q t
+  module _ («nas_ip» : ℕ) («nas_id» q t : List ℕ) where
+    pub read-moved : (m : M.Moved) → m ≡ moved (settings secret «nas_ip» «nas_id») b q t → m ≡ rowsMoved secret «nas_ip» «nas_id» ws ks ps ms j q t
     read-moved m e = e ∙ rw is
 
-    pub read-table : (u : List ℕ) → u ≡ movedTable (settings secret address name) b q t
-        → u ≡ movedTable (settings secret address name) (jobAt (jobsIn (length secret) ws ks ps ms) j) q t
+    pub read-table : (u : List ℕ) → u ≡ movedTable (settings secret «nas_ip» «nas_id») b q t
+        → u ≡ movedTable (settings secret «nas_ip» «nas_id») (jobAt (jobsIn (length secret) ws ks ps ms) j) q t
     read-table u e = e ∙ rw is
 
 pub part-long : (j : ℕ) (q store : List ℕ) → q ≡ partOf j store → j < 4 → length store ≡ 16384 → length q ≡ 4096
@@ -62,8 +62,8 @@ module _ (m : M.Moved) (j : ℕ) (a : Bool) (is : a ≡ ackBy (m .ending)) (ks k
 pub secret-cut : (z : ℕ) (secret : List ℕ) → z ≤ 64 → length secret ≡ 64 → length (take z secret) ≡ z
 secret-cut z secret fits long = length-take-le z secret (omega (arith, fits, long))
 
-pub name-cut : (y : ℕ) (name : List ℕ) → y ≤ 32 → length name ≡ 32 → length (take y name) ≡ y
-name-cut y name fits long = length-take-le y name (omega (arith, fits, long))
+pub name-cut : (y : ℕ) («nas_id» : List ℕ) → y ≤ 32 → length «nas_id» ≡ 32 → length (take y «nas_id») ≡ y
+name-cut y «nas_id» fits long = length-take-le y «nas_id» (omega (arith, fits, long))
 
 pub secret-short : (z : ℕ) (secret : List ℕ) → z ≤ 64 → length secret ≡ 64 → length (take z secret) ≤ 64
 secret-short z secret fits long = rw (secret-cut z secret fits long) fits

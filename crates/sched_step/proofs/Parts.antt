@@ -11,15 +11,15 @@ use Rattle.sched_state.specs.Scheduler.{jobAt, partOf}
 use Rattle.sched_rows.specs.Layout.{kindRow, jobsIn}
 use Rattle.sched_step.specs.Moved.{rowsMoved, placesAfter, marksAfter}
 
-module _ (secret : List ℕ) (address : ℕ) (name : List ℕ) (ws ks ps ms : List (List ℕ)) (j : ℕ) (q t store : List ℕ) (part : q ≡ partOf j store) where
-  pub part-table : (u : List ℕ) → u ≡ movedTable (settings secret address name) (jobAt (jobsIn (length secret) ws ks ps ms) j) q t
-      → u ≡ movedTable (settings secret address name) (jobAt (jobsIn (length secret) ws ks ps ms) j) (partOf j store) t
+module _ (secret : List ℕ) («nas_ip» : ℕ) («nas_id» : List ℕ) (ws ks ps ms : List (List ℕ)) (j : ℕ) (q t store : List ℕ) (part : q ≡ partOf j store) where
+  pub part-table : (u : List ℕ) → u ≡ movedTable (settings secret «nas_ip» «nas_id») (jobAt (jobsIn (length secret) ws ks ps ms) j) q t
+      → u ≡ movedTable (settings secret «nas_ip» «nas_id») (jobAt (jobsIn (length secret) ws ks ps ms) j) (partOf j store) t
   part-table u is = rw (← part) is
 
   abbrev whole : M.Moved
-  whole = rowsMoved secret address name ws ks ps ms j (partOf j store) t
+  whole = rowsMoved secret «nas_ip» «nas_id» ws ks ps ms j (partOf j store) t
 
-  module _ (m : M.Moved) (is : m ≡ rowsMoved secret address name ws ks ps ms j q t) where
+  module _ (m : M.Moved) (is : m ≡ rowsMoved secret «nas_ip» «nas_id» ws ks ps ms j q t) where
     same : m ≡ whole
     same = rw (← part) is
 

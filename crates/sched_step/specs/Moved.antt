@@ -16,7 +16,7 @@ use Rattle.sched_rows.specs.Left.{restartPlaces, restartMarks}
 
 -- job j of these rows, moved by its part q of the store and the table t
 abbrev pub rowsMoved : List ℕ → ℕ → List ℕ → List (List ℕ) → List (List ℕ) → List (List ℕ) → List (List ℕ) → ℕ → List ℕ → List ℕ → M.Moved
-rowsMoved secret address name ws ks ps ms j q t = moved (settings secret address name) (jobAt (jobsIn (length secret) ws ks ps ms) j) q t
+rowsMoved secret «nas_ip» «nas_id» ws ks ps ms j q t = moved (settings secret «nas_ip» «nas_id») (jobAt (jobsIn (length secret) ws ks ps ms) j) q t
 
 -- whether a step ended in ACK
 abbrev pub ackBy : E.Ending → Bool

@@ -53,8 +53,8 @@ pub fn step(
     marks: &mut [[u8; 64]],
     secret: &[u8],
     size: usize,
-    address: u32,
-    name: &[u8],
+    nas_ip: u32,
+    nas_id: &[u8],
     label: usize,
     j: usize,
     t: &mut [u8],
@@ -65,14 +65,14 @@ pub fn step(
     skew: &mut i64,
     stamped: &mut u32,
 ) -> u32
-    requires { ⌜ (length (now words) ≡ 4) × (length (now kinds) ≡ 4) × (length (now places) ≡ 4) × (length (now marks) ≡ 4) × (length (now secret) ≡ 64) × (length (now name) ≡ 32) ⌝ }
-    ensures { λ r. ⌜ told r (now (changed .exit)) (now (bytes .exit)) (now (skew .exit)) (now (stamped .exit)) ≡ toldBy (stepCalled (schedulerIn (held (now (words .entry)) (now (kinds .entry)) (now (places .entry)) (now (marks .entry)) (now (secret .entry)) size address (now (name .entry)) label)) j (now (t .entry)) (now (reply .entry)) (now (store .entry)) .outcome) (told 0 (now (changed .entry)) (now (bytes .entry)) (now (skew .entry)) (now (stamped .entry))) ⌝ }
-    ensures { λ _. ⌜ held (now (words .exit)) (now (kinds .exit)) (now (places .exit)) (now (marks .exit)) (now (secret .entry)) size address (now (name .entry)) label ≡ stepLeft (held (now (words .entry)) (now (kinds .entry)) (now (places .entry)) (now (marks .entry)) (now (secret .entry)) size address (now (name .entry)) label) j (now (t .entry)) (now (reply .entry)) (now (store .entry)) ⌝ }
-    ensures { λ _. ⌜ now (t .exit) ≡ stepTable (schedulerIn (held (now (words .entry)) (now (kinds .entry)) (now (places .entry)) (now (marks .entry)) (now (secret .entry)) size address (now (name .entry)) label)) j (now (t .entry)) (now (reply .entry)) (now (store .entry)) ⌝ }
-    ensures { λ _. ⌜ now (reply .exit) ≡ stepReply (schedulerIn (held (now (words .entry)) (now (kinds .entry)) (now (places .entry)) (now (marks .entry)) (now (secret .entry)) size address (now (name .entry)) label)) j (now (t .entry)) (now (reply .entry)) (now (store .entry)) ⌝ }
+    requires { ⌜ (length (now words) ≡ 4) × (length (now kinds) ≡ 4) × (length (now places) ≡ 4) × (length (now marks) ≡ 4) × (length (now secret) ≡ 64) × (length (now «nas_id») ≡ 32) ⌝ }
+    ensures { λ r. ⌜ told r (now (changed .exit)) (now (bytes .exit)) (now (skew .exit)) (now (stamped .exit)) ≡ toldBy (stepCalled (schedulerIn (held (now (words .entry)) (now (kinds .entry)) (now (places .entry)) (now (marks .entry)) (now (secret .entry)) size «nas_ip» (now («nas_id» .entry)) label)) j (now (t .entry)) (now (reply .entry)) (now (store .entry)) .outcome) (told 0 (now (changed .entry)) (now (bytes .entry)) (now (skew .entry)) (now (stamped .entry))) ⌝ }
+    ensures { λ _. ⌜ held (now (words .exit)) (now (kinds .exit)) (now (places .exit)) (now (marks .exit)) (now (secret .entry)) size «nas_ip» (now («nas_id» .entry)) label ≡ stepLeft (held (now (words .entry)) (now (kinds .entry)) (now (places .entry)) (now (marks .entry)) (now (secret .entry)) size «nas_ip» (now («nas_id» .entry)) label) j (now (t .entry)) (now (reply .entry)) (now (store .entry)) ⌝ }
+    ensures { λ _. ⌜ now (t .exit) ≡ stepTable (schedulerIn (held (now (words .entry)) (now (kinds .entry)) (now (places .entry)) (now (marks .entry)) (now (secret .entry)) size «nas_ip» (now («nas_id» .entry)) label)) j (now (t .entry)) (now (reply .entry)) (now (store .entry)) ⌝ }
+    ensures { λ _. ⌜ now (reply .exit) ≡ stepReply (schedulerIn (held (now (words .entry)) (now (kinds .entry)) (now (places .entry)) (now (marks .entry)) (now (secret .entry)) size «nas_ip» (now («nas_id» .entry)) label)) j (now (t .entry)) (now (reply .entry)) (now (store .entry)) ⌝ }
 {
     let z = sched_rows::reading::secret_in(size);
-    let y = sched_rows::reading::name_in(label);
+    let y = sched_rows::reading::nas_id_in(label);
     let n = refusal(words, kinds, places, marks, z, j, t, reply, store);
     if n != 0 {
         return n as u32;
@@ -83,8 +83,8 @@ pub fn step(
         places,
         marks,
         &secret[..z],
-        address,
-        &name[..y],
+        nas_ip,
+        &nas_id[..y],
         j,
         t,
         reply,

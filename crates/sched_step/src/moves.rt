@@ -65,20 +65,20 @@ fn worked(
     places: &[[usize; 2]],
     marks: &[[u8; 64]],
     secret: &[u8],
-    address: u32,
-    name: &[u8],
+    nas_ip: u32,
+    nas_id: &[u8],
     j: usize,
     q: &[u8],
     t: &mut [u8],
     reply: &mut [u8],
 ) -> Moved
     requires { ⌜ (length (now words) ≡ 4) × (length (now kinds) ≡ 4) × (length (now places) ≡ 4) × (length (now marks) ≡ 4) × (length (now secret) ≤ 64) × (j < 4) × (length (now q) ≡ 4096) × (4096 ≤ length (now reply)) ⌝ }
-    ensures { λ r. ⌜ r ≡ rowsMoved (now (secret .entry)) address (now (name .entry)) (now (words .entry)) (now (kinds .entry)) (now (places .entry)) (now (marks .entry)) j (now (q .entry)) (now (t .entry)) ⌝ }
-    ensures { λ _. ⌜ now (t .exit) ≡ movedTable (settings (now (secret .entry)) address (now (name .entry))) (jobAt (jobsIn (length (now (secret .entry))) (now (words .entry)) (now (kinds .entry)) (now (places .entry)) (now (marks .entry))) j) (now (q .entry)) (now (t .entry)) ⌝ }
+    ensures { λ r. ⌜ r ≡ rowsMoved (now (secret .entry)) «nas_ip» (now («nas_id» .entry)) (now (words .entry)) (now (kinds .entry)) (now (places .entry)) (now (marks .entry)) j (now (q .entry)) (now (t .entry)) ⌝ }
+    ensures { λ _. ⌜ now (t .exit) ≡ movedTable (settings (now (secret .entry)) «nas_ip» (now («nas_id» .entry))) (jobAt (jobsIn (length (now (secret .entry))) (now (words .entry)) (now (kinds .entry)) (now (places .entry)) (now (marks .entry))) j) (now (q .entry)) (now (t .entry)) ⌝ }
     ensures { λ r. ⌜ now (reply .exit) ≡ replyAfter (now (secret .entry)) (now (q .entry)) (now (reply .entry)) (r .ending) ⌝ }
 {
     let job = sched_rows::reading::job(words, kinds, places, marks, secret.len(), j);
-    sched_move::step(job, q, secret, address, name, t, reply)
+    sched_move::step(job, q, secret, nas_ip, nas_id, t, reply)
 }
 
 // One step of job j.
@@ -88,21 +88,21 @@ pub(crate) fn stepped(
     places: &mut [[usize; 2]],
     marks: &mut [[u8; 64]],
     secret: &[u8],
-    address: u32,
-    name: &[u8],
+    nas_ip: u32,
+    nas_id: &[u8],
     j: usize,
     t: &mut [u8],
     reply: &mut [u8],
     store: &[u8],
 ) -> Ending
     requires { ⌜ (length (now words) ≡ 4) × (length (now kinds) ≡ 4) × (length (now places) ≡ 4) × (length (now marks) ≡ 4) × (length (now secret) ≤ 64) × (j < 4) × (4096 ≤ length (now reply)) × (length (now store) ≡ 16384) ⌝ }
-    ensures { λ r. ⌜ r ≡ rowsMoved (now (secret .entry)) address (now (name .entry)) (now (words .entry)) (now (kinds .entry)) (now (places .entry)) (now (marks .entry)) j (partOf j (now (store .entry))) (now (t .entry)) .ending ⌝ }
-    ensures { λ _. ⌜ now (words .exit) ≡ set (now (words .entry)) j (rowsMoved (now (secret .entry)) address (now (name .entry)) (now (words .entry)) (now (kinds .entry)) (now (places .entry)) (now (marks .entry)) j (partOf j (now (store .entry))) (now (t .entry)) .job .words) ⌝ }
-    ensures { λ _. ⌜ now (kinds .exit) ≡ set (now (kinds .entry)) j (kindRow (rowsMoved (now (secret .entry)) address (now (name .entry)) (now (words .entry)) (now (kinds .entry)) (now (places .entry)) (now (marks .entry)) j (partOf j (now (store .entry))) (now (t .entry)) .job)) ⌝ }
-    ensures { λ _. ⌜ now (places .exit) ≡ placesAfter (rowsMoved (now (secret .entry)) address (now (name .entry)) (now (words .entry)) (now (kinds .entry)) (now (places .entry)) (now (marks .entry)) j (partOf j (now (store .entry))) (now (t .entry))) j (now (kinds .entry)) (now (places .entry)) ⌝ }
-    ensures { λ _. ⌜ now (marks .exit) ≡ marksAfter (rowsMoved (now (secret .entry)) address (now (name .entry)) (now (words .entry)) (now (kinds .entry)) (now (places .entry)) (now (marks .entry)) j (partOf j (now (store .entry))) (now (t .entry))) j (now (kinds .entry)) (now (marks .entry)) ⌝ }
-    ensures { λ _. ⌜ now (t .exit) ≡ movedTable (settings (now (secret .entry)) address (now (name .entry))) (jobAt (jobsIn (length (now (secret .entry))) (now (words .entry)) (now (kinds .entry)) (now (places .entry)) (now (marks .entry))) j) (partOf j (now (store .entry))) (now (t .entry)) ⌝ }
-    ensures { λ _. ⌜ now (reply .exit) ≡ replyAfter (now (secret .entry)) (partOf j (now (store .entry))) (now (reply .entry)) (rowsMoved (now (secret .entry)) address (now (name .entry)) (now (words .entry)) (now (kinds .entry)) (now (places .entry)) (now (marks .entry)) j (partOf j (now (store .entry))) (now (t .entry)) .ending) ⌝ }
+    ensures { λ r. ⌜ r ≡ rowsMoved (now (secret .entry)) «nas_ip» (now («nas_id» .entry)) (now (words .entry)) (now (kinds .entry)) (now (places .entry)) (now (marks .entry)) j (partOf j (now (store .entry))) (now (t .entry)) .ending ⌝ }
+    ensures { λ _. ⌜ now (words .exit) ≡ set (now (words .entry)) j (rowsMoved (now (secret .entry)) «nas_ip» (now («nas_id» .entry)) (now (words .entry)) (now (kinds .entry)) (now (places .entry)) (now (marks .entry)) j (partOf j (now (store .entry))) (now (t .entry)) .job .words) ⌝ }
+    ensures { λ _. ⌜ now (kinds .exit) ≡ set (now (kinds .entry)) j (kindRow (rowsMoved (now (secret .entry)) «nas_ip» (now («nas_id» .entry)) (now (words .entry)) (now (kinds .entry)) (now (places .entry)) (now (marks .entry)) j (partOf j (now (store .entry))) (now (t .entry)) .job)) ⌝ }
+    ensures { λ _. ⌜ now (places .exit) ≡ placesAfter (rowsMoved (now (secret .entry)) «nas_ip» (now («nas_id» .entry)) (now (words .entry)) (now (kinds .entry)) (now (places .entry)) (now (marks .entry)) j (partOf j (now (store .entry))) (now (t .entry))) j (now (kinds .entry)) (now (places .entry)) ⌝ }
+    ensures { λ _. ⌜ now (marks .exit) ≡ marksAfter (rowsMoved (now (secret .entry)) «nas_ip» (now («nas_id» .entry)) (now (words .entry)) (now (kinds .entry)) (now (places .entry)) (now (marks .entry)) j (partOf j (now (store .entry))) (now (t .entry))) j (now (kinds .entry)) (now (marks .entry)) ⌝ }
+    ensures { λ _. ⌜ now (t .exit) ≡ movedTable (settings (now (secret .entry)) «nas_ip» (now («nas_id» .entry))) (jobAt (jobsIn (length (now (secret .entry))) (now (words .entry)) (now (kinds .entry)) (now (places .entry)) (now (marks .entry))) j) (partOf j (now (store .entry))) (now (t .entry)) ⌝ }
+    ensures { λ _. ⌜ now (reply .exit) ≡ replyAfter (now (secret .entry)) (partOf j (now (store .entry))) (now (reply .entry)) (rowsMoved (now (secret .entry)) «nas_ip» (now («nas_id» .entry)) (now (words .entry)) (now (kinds .entry)) (now (places .entry)) (now (marks .entry)) j (partOf j (now (store .entry))) (now (t .entry)) .ending) ⌝ }
 {
     let q = octet_runs::slice(store, j * 4096, 4096);
     let m = worked(
@@ -111,8 +111,8 @@ pub(crate) fn stepped(
         places,
         marks,
         secret,
-        address,
-        name,
+        nas_ip,
+        nas_id,
         j,
         q,
         t,

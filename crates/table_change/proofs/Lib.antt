@@ -3,5 +3,5 @@ pub mod Alter
 pub mod Slots
 pub mod Turns
 pub mod Changed
-pub mod Kept
+pub mod Untouched
 pub mod Written

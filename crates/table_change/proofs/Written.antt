@@ -11,7 +11,7 @@ use Rattle.octet_numbers.specs.Numbers.{be, beBytes}
 use Rattle.octet_numbers.specs.Runs.{part, write}
 use Rattle.octet_numbers.proofs.Numbers.{length-beBytes, be-before, be-after, be-written}
 use Rattle.table_slots.specs.Slot.{live, text, sessionTimeout, idleTimeout, filterId}
-use Rattle.table_slots.proofs.Kept.{text-after}
+use Rattle.table_slots.proofs.Apart.{text-after}
 use Rattle.table_records.specs.Record.{textField}
 use Rattle.table_records.proofs.Texts.{field-written, text-there}
 use Rattle.table_change.specs.declared.Alteration.{Alteration}

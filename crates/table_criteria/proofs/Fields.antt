@@ -9,7 +9,7 @@ use Rattle.table_slots.specs.Slot.{text}
 use Rattle.table_criteria.specs.declared.Criterion.{Criterion}
 use Rattle.table_criteria.specs.declared.Field.{Field}
 use Rattle.table_criteria.specs.declared.Field.the-variants.{UserName, NasPort, FramedAddress, CallingStation, SessionId}
-use Rattle.table_criteria.specs.Matching.{fieldBytes, meets, place}
+use Rattle.table_criteria.specs.Meets.{fieldBytes, meets, place}
 
 module _ (f : Field) (s v : List ℕ) where
   pub field-user : f ≡ UserName → v ≡ text 18 s → v ≡ fieldBytes f s

@@ -14,7 +14,7 @@ use Rattle.table_slots.specs.Slot.{live, slot}
 use Rattle.table_slots.proofs.Live.{passed, refused, free-mark}
 use Rattle.table_criteria.specs.declared.Criteria.{Criteria}
 use Rattle.table_criteria.specs.declared.Criterion.{Criterion}
-use Rattle.table_criteria.specs.Matching.{inside, all, listed, meets, matches, matchesAt}
+use Rattle.table_criteria.specs.Meets.{inside, all, listed, meets, matches, matchesAt}
 
 -- an array's length, as a function is told of it
 pub same-long : {B : Type 0} (f : Criterion → B) (l : List Criterion) (n : ℕ) → length (map f l) ≡ n → length l ≡ n

@@ -20,7 +20,7 @@ use Rattle.table_slots.specs.Slot.{text}
 use Rattle.table_criteria.specs.declared.Criterion.{Criterion}
 use Rattle.table_criteria.specs.declared.Field.{Field}
 use Rattle.table_criteria.specs.declared.Field.the-variants.{UserName, NasPort, FramedAddress, CallingStation, SessionId}
-use Rattle.table_criteria.specs.Matching.{fieldBytes, inside, meets, place}
+use Rattle.table_criteria.specs.Meets.{fieldBytes, inside, meets, place}
 
 -- ---- where the value lies
 

@@ -5,7 +5,7 @@ ghost use Prim.Native.Nat.{_+_, _≤_};
 ghost use lib.ListN.{length};
 ghost use Rattle.octet_numbers.specs.Runs.{part, equalBytes};
 ghost use Rattle.table_slots.specs.Slot.{text};
-ghost use Rattle.table_criteria.specs.Matching.{fieldBytes, inside, meets, place, all, listed};
+ghost use Rattle.table_criteria.specs.Meets.{fieldBytes, inside, meets, place, all, listed};
 
 // How many criteria there are: the list has room for 5.
 pub fn number_of(c: super::Criteria) -> usize

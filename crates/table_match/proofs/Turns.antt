@@ -13,7 +13,7 @@ use Rattle.table_slots.specs.Marks.{marksAfter}
 use Rattle.table_slots.proofs.Marked.{marks-skip, marks-more, marks-all}
 use Rattle.table_criteria.specs.declared.Criteria.{Criteria}
 use Rattle.table_criteria.specs.declared.Criterion.{Criterion}
-use Rattle.table_criteria.specs.Matching.{all, listed, meets, matchesAt}
+use Rattle.table_criteria.specs.Meets.{all, listed, meets, matchesAt}
 use Rattle.table_criteria.proofs.Walk.{walk-free, walk-fails, walk-ends}
 
 -- m is the marks before the turn, m′ after it

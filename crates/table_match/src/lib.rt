@@ -2,7 +2,7 @@
 ghost use mathlib.Core.Path.{_≡_};
 ghost use Rattle.table_slots.specs.Slot.{slotCount};
 ghost use Rattle.table_slots.specs.Marks.{marksAfter};
-ghost use Rattle.table_criteria.specs.Matching.{listed, matchesAt};
+ghost use Rattle.table_criteria.specs.Meets.{listed, matchesAt};
 use table_criteria::Criteria;
 use table_criteria::compare;
 

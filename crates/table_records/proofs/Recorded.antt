@@ -12,7 +12,7 @@ use Rattle.octet_numbers.specs.Runs.{part}
 use Rattle.octet_numbers.proofs.Numbers.{length-beBytes, be-part, be-written}
 use Rattle.octet_numbers.proofs.Write.{write-whole}
 use Rattle.table_slots.specs.Slot.{live, within, nasPort, framedAddress, sessionTimeout, idleTimeout, userName, sessionId, callingStation, filterId}
-use Rattle.table_slots.proofs.Kept.{and-left, and-right}
+use Rattle.table_slots.proofs.Apart.{and-left, and-right}
 use Rattle.table_slots.proofs.Live.{within-high}
 use Rattle.table_records.specs.Record.{textField}
 use Rattle.table_records.specs.Record.{Session, recordOf, fitsRecord}

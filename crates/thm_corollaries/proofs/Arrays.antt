@@ -28,7 +28,7 @@ pub record Fits (h : Held) : Type 0 where
   pub places : length (h .places) ≡ 4
   pub marks : length (h .marks) ≡ 4
   pub secret : length (h .secret) ≡ 64
-  pub name : length (h .name) ≡ 32
+  pub «nas_id» : length (h .«nas_id») ≡ 32
 
 -- a store past the end changes nothing
 set-past : {A : Type 0} (l : List A) (j : ℕ) (x : A) → length l ≤ j → set l j x ≡ l
@@ -52,7 +52,7 @@ module _ (h : Held) (f : Fits h) where
         places = length-set (h .places) j _ ∙ f .places;
         marks = length-set (h .marks) j _ ∙ f .marks;
         secret = f .secret;
-        name = f .name;
+        «nas_id» = f .«nas_id»;
       }
 
   pub fits-again : Fits (restartHeld h)
@@ -63,7 +63,7 @@ module _ (h : Held) (f : Fits h) where
         places = length-places (h .kinds) (h .places) ∙ f .places;
         marks = length-marks (h .kinds) (h .marks) ∙ f .marks;
         secret = f .secret;
-        name = f .name;
+        «nas_id» = f .«nas_id»;
       }
 
   pub again-reads : schedulerIn (restartHeld h) ≡ restartAll (schedulerIn h)

@@ -19,7 +19,7 @@ use Rattle.rule_causes.specs.declared.Cause.{Cause}
 use Rattle.das_reply_parts.specs.Reply.{replyLength, replyOf}
 use Rattle.das_reply_parts.proofs.Lengths.{length-replyOf}
 use Rattle.das_reply.proofs.Back.{reply-length}
-use Rattle.das_answer.specs.Told.{silent}
+use Rattle.das_answer.specs.Replied.{silent}
 use Rattle.das_handle.specs.Refusals.{refusalOf}
 use Rattle.das_handle.specs.Handle.{handleAnswer, handleReply}
 use Rattle.das_handle.proofs.Stages.{room}

@@ -29,7 +29,7 @@ use Rattle.sched_state.specs.Refusals.{openRefusal, stepRefusal, dropRefusal}
 use Rattle.sched_state.specs.Calls.{called, isAck, steppedAs, movedOf, openCalled, stepCalled, dropCalled, startedAs, startCalled, endedAs, endCalled}
 use Rattle.sched_rows.specs.Layout.{Held, schedulerIn}
 use Rattle.sched_rows.specs.Left.{putJob, restartHeld, leftBy, openLeft, stepLeft, dropLeft, startLeft, endLeft}
-use Rattle.sched_rows.proofs.Kept.{read-ours}
+use Rattle.sched_rows.proofs.ReadOurs.{read-ours}
 use Rattle.thm_serial.proofs.OurSchedulers.{open-ours, step-ours, drop-ours}
 use Rattle.thm_corollaries.proofs.Arrays.{Fits, fits-put, fits-again, again-reads, put-ours, again-ours, put-reads}
 
@@ -43,7 +43,7 @@ module _ (h : Held) (f : Fits h) where
   s = schedulerIn h
 
   pub ours : Ours s
-  ours = read-ours h (f .secret) (f .name)
+  ours = read-ours h (f .secret) (f .«nas_id»)
 
   -- ---- Open
 

@@ -10,7 +10,7 @@ use Rattle.nas_settings.specs.Settings.{Settings}
 use Rattle.das_answer.specs.declared.Answer.{Answer}
 use Rattle.das_answer.specs.declared.Answer.the-variants as A
 use Rattle.das_handle.specs.Handle.{handleAnswer, handleReply}
-use Rattle.das_answer.specs.Told.{silent}
+use Rattle.das_answer.specs.Replied.{silent}
 use Rattle.thm_demands.proofs.Second.{demand2}
 use Rattle.thm_corollaries.specs.Corollaries.{Passes}
 

@@ -22,7 +22,7 @@ use Rattle.rule_verdict.specs.Verdict.{checkVerdict, verdictOf}
 use Rattle.das_answer.specs.declared.Answer as D
 use Rattle.das_answer.specs.declared.Answer.the-variants as A
 use Rattle.das_answer.specs.Commit.{countAnswer}
-use Rattle.das_answer.specs.Told.{silent}
+use Rattle.das_answer.specs.Replied.{silent}
 use Rattle.das_handle.specs.Handle.{answerOf, tableAs, handleAnswer, handleTable, handleReply}
 use Rattle.sched_state.specs.declared.Scheduler as S
 use Rattle.sched_state.specs.Calls.{openCalled, openStore}

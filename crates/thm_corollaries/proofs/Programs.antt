@@ -13,7 +13,7 @@ use Rattle.sched_state.specs.Making.{madeOf}
 use Rattle.sched_state.specs.Runs.{Call, Open, Step, Drop, Start, End, World, Out, call, run}
 use Rattle.sched_rows.specs.Layout.{Held, heldOf, schedulerIn}
 use Rattle.sched_rows.specs.Left.{makeLeft}
-use Rattle.sched_rows.proofs.Kept.{read-ours}
+use Rattle.sched_rows.proofs.ReadOurs.{read-ours}
 use Rattle.sched_rows.proofs.Back.{in-out}
 use Rattle.thm_serial.specs.Demand3.{world, serially}
 use Rattle.thm_serial.proofs.Proved.{demand3}
@@ -90,7 +90,7 @@ module _ (g : Settings) (h : Holds) (es : List Event) (p : Program g h es) where
 
   fits-made : Fits (heldOf (madeOf g))
   unfolding heldOf madeOf
-  fits-made = record { words = refl; kinds = refl; places = refl; marks = refl; secret = fresh .secret-room; name = fresh .name-room }
+  fits-made = record { words = refl; kinds = refl; places = refl; marks = refl; secret = fresh .secret-room; «nas_id» = fresh .name-room }
 
   ran : Runs h es
   ran = runs h es (subst Fits (sym as-made) fits-made) (p .calls)

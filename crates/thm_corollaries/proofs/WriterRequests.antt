@@ -42,11 +42,11 @@ module _ (g : Settings) (p : List ℕ) (clock : ℕ) where
   by-cause k c true = tt
   by-cause k c false = tt
 
-  by-stale : (v : ℕ) (b : Bool) → Sixth (cond b (J.Stale (skewOf v clock)) (freshVerdict (g .address) (g .name) p (skewOf v clock)))
+  by-stale : (v : ℕ) (b : Bool) → Sixth (cond b (J.Stale (skewOf v clock)) (freshVerdict (g .«nas_ip») (g .«nas_id») p (skewOf v clock)))
   unfolding freshVerdict nakOr
   by-stale v true = tt
   by-stale v false =
-      by-cause (skewOf v clock) (causeOf (codeOf p) (g .address) (g .name) (areaOf p)) (applies (causeOf (codeOf p) (g .address) (g .name) (areaOf p)))
+      by-cause (skewOf v clock) (causeOf (codeOf p) (g .«nas_ip») (g .«nas_id») (areaOf p)) (applies (causeOf (codeOf p) (g .«nas_ip») (g .«nas_id») (areaOf p)))
 
   by-stamp : (x : Stamp) → Sixth (stampVerdict g p clock x)
   by-stamp (Usable v) = by-stale v (stale v clock)

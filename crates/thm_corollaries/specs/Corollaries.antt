@@ -24,7 +24,7 @@ use Rattle.sched_state.specs.Calls.{openCalled, openStore, stepCalled, stepTabl
 use Rattle.sched_state.specs.Runs.{Call, Open, Step, Drop, Start, End, World, Ran, call, run}
 use Rattle.thm_serial.specs.Serial.{Note, noted, noteAt}
 use Rattle.thm_serial.specs.Demand3.{world, serially, New}
-use Rattle.das_answer.specs.Told.{silent}
+use Rattle.das_answer.specs.Replied.{silent}
 
 -- b is the reply buffer before, r after: it holds a reply to the request p, and that reply passes our check
 pub record Passes (secret p b r : List ℕ) : Type 0 where

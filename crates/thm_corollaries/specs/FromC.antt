@@ -109,7 +109,7 @@ pub record Program (g : Settings) (h : Holds) (es : List Event) : Type 0 where
 
 pub record FromC : Type 0 where
   -- whatever the arrays hold reads as a scheduler of ours; their lengths are those of C's types
-  pub ours : (h : Held) → length (h .secret) ≡ 64 → length (h .name) ≡ 32 → Ours (schedulerIn h)
+  pub ours : (h : Held) → length (h .secret) ≡ 64 → length (h .«nas_id») ≡ 32 → Ours (schedulerIn h)
   -- a scheduler of ours, written and read back, is the same
   pub back : (s : D.Scheduler) → Ours s → schedulerIn (heldOf s) ≡ s
   -- every number given out and every reply buffer

@@ -14,7 +14,7 @@ use Rattle.packet_form.specs.Discards.{badLength, formOf}
 use Rattle.packet_mac.specs.Discards.{badMac}
 use Rattle.rule_verdict.specs.Discards.{signedBy}
 use Rattle.das_answer.specs.declared.Answer.{Answer}
-use Rattle.das_answer.specs.Told.{silent}
+use Rattle.das_answer.specs.Replied.{silent}
 use Rattle.das_handle.specs.Handle.{handleAnswer, handleTable, handleReply}
 use Rattle.dac_write.specs.Writer.{Draft, writeRefusal, requestOf, writeOutput}
 use Rattle.dac_check.specs.declared.Checked.the-variants.{Right}

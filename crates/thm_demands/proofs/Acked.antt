@@ -25,7 +25,7 @@ use Rattle.das_reply.proofs.Fresh.{uncaused}
 use Rattle.das_handle.proofs.Bounds.{changeCount}
 
 pub record Acked (g : Settings) (t p : List ℕ) (m : ℕ) : Type 0 where
-  pub uncaused-by : causeOf (codeOf p) (g .address) (g .name) (areaOf p) ≡ NoCause
+  pub uncaused-by : causeOf (codeOf p) (g .«nas_ip») (g .«nas_id») (areaOf p) ≡ NoCause
   pub count : m ≡ matchCount (areaOf p) t
 
 -- two numbers that an impossible equation makes equal

@@ -14,7 +14,7 @@ use Rattle.table_slots.specs.Slot.{slotCount}
 use Rattle.rule_causes.specs.declared.Cause.{Cause}
 use Rattle.rule_causes.specs.declared.Cause.the-variants.{SessionNotFound, NoCause}
 use Rattle.packet_form.specs.Packet.{lengthOf, areaOf}
-use Rattle.nas_settings.specs.Settings.{Settings, badSecret, badName}
+use Rattle.nas_settings.specs.Settings.{Settings, badSecret, badNasId}
 use Rattle.rule_verdict.specs.declared.Verdict as R
 use Rattle.rule_verdict.specs.declared.Verdict.the-variants as J
 use Rattle.rule_verdict.specs.Discards.{signedBy}
@@ -31,7 +31,7 @@ use Rattle.das_handle.specs.Refusals.{refusalOf}
 use Rattle.das_handle.specs.Handle.{answerOf, handleAnswer}
 use Rattle.dac_check.specs.ReplyCheck.{checkAnswer}
 use Rattle.thm_exchange.proofs.Answered.{reply-passes}
-use Rattle.das_answer.specs.Told.{silent}
+use Rattle.das_answer.specs.Replied.{silent}
 use Rattle.thm_demands.specs.Demand2.{Carries}
 use Rattle.thm_demands.proofs.Replied.{formed}
 
@@ -48,7 +48,7 @@ no-two false false z w e = refl
 
 good-secret : (g : Settings) (t b : List ℕ) → refusalOf g t b ≡ 0 → badSecret (g .secret) ≡ false
 unfolding refusalOf
-good-secret g t b e = no-two (eqb (slotCount t) 0) (badSecret (g .secret)) (badName (g .name)) (ltb (length b) 4096) e
+good-secret g t b e = no-two (eqb (slotCount t) 0) (badSecret (g .secret)) (badNasId (g .«nas_id»)) (ltb (length b) 4096) e
 
 -- ---- the length that an answer tells
 

@@ -40,11 +40,11 @@ by-cause l k c true = tt
 by-cause l k c false = tt
 
 module _ (g : Settings) (p : List ℕ) (clock : ℕ) where
-  fresh-among : (l : List ℕ) (k : ℤ) → Among l (freshVerdict (g .address) (g .name) p k)
+  fresh-among : (l : List ℕ) (k : ℤ) → Among l (freshVerdict (g .«nas_ip») (g .«nas_id») p k)
   unfolding freshVerdict nakOr
-  fresh-among l k = by-cause l k (causeOf (codeOf p) (g .address) (g .name) (areaOf p)) (applies (causeOf (codeOf p) (g .address) (g .name) (areaOf p)))
+  fresh-among l k = by-cause l k (causeOf (codeOf p) (g .«nas_ip») (g .«nas_id») (areaOf p)) (applies (causeOf (codeOf p) (g .«nas_ip») (g .«nas_id») (areaOf p)))
 
-  by-stale : (v : ℕ) (b : Bool) → Among (4 ∷ 5 ∷ 6 ∷ []) (cond b (J.Stale (skewOf v clock)) (freshVerdict (g .address) (g .name) p (skewOf v clock)))
+  by-stale : (v : ℕ) (b : Bool) → Among (4 ∷ 5 ∷ 6 ∷ []) (cond b (J.Stale (skewOf v clock)) (freshVerdict (g .«nas_ip») (g .«nas_id») p (skewOf v clock)))
   by-stale v true = tt
   by-stale v false = fresh-among (4 ∷ 5 ∷ 6 ∷ []) (skewOf v clock)
 

@@ -15,7 +15,7 @@ use Rattle.rule_causes.specs.declared.Cause.the-variants.{SessionNotFound}
 use Rattle.rule_verdict.specs.declared.Verdict as R
 use Rattle.rule_verdict.specs.declared.Verdict.the-variants as J
 use Rattle.packet_form.specs.Packet.{areaOf}
-use Rattle.nas_settings.specs.Settings.{Settings, badSecret, badName}
+use Rattle.nas_settings.specs.Settings.{Settings, badSecret, badNasId}
 use Rattle.rule_verdict.specs.Discards.{signedBy}
 use Rattle.rule_verdict.specs.Verdict.{verdictOf}
 use Rattle.das_effects.specs.Matching.{matchCount}
@@ -84,7 +84,7 @@ unfolding refusalOf
 refusal-one g t b =
     one-more 1 (eqb (slotCount t) 0) _ _
     (one-more 2 (badSecret (g .secret)) _ _
-    (one-more 3 (badName (g .name)) _ _
+    (one-more 3 (badNasId (g .«nas_id»)) _ _
     (one-more 4 (ltb (length b) 4096) _ _ none-of)))
     .found
 

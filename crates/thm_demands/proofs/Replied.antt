@@ -20,7 +20,7 @@ use Rattle.das_answer.specs.declared.Answer.the-variants as A
 use Rattle.das_handle.specs.Refusals.{refusalOf}
 use Rattle.das_handle.specs.Handle.{answerOf, handleAnswer}
 use Rattle.das_reply.proofs.Fresh.{answered, fits}
-use Rattle.das_answer.specs.Told.{silent}
+use Rattle.das_answer.specs.Replied.{silent}
 
 pub record Formed (g : Settings) (p : List ℕ) (clock : ℕ) : Type 0 where
   pub form : formOf p ≡ 0

@@ -8,7 +8,7 @@ use Prim.Native.Nat.{ℕ}
 use borrow.Author.Tests.{ne-eqb}
 use lib.Dec.{eqb, ltb}
 use Rattle.octet_numbers.specs.Runs.{member}
-use Rattle.nas_settings.specs.Settings.{Settings, badSecret, badName}
+use Rattle.nas_settings.specs.Settings.{Settings, badSecret, badNasId}
 use Rattle.sched_state.specs.declared.Scheduler as D
 use Rattle.sched_state.specs.declared.Called as C
 use Rattle.sched_state.specs.declared.Outcome.the-variants as O
@@ -32,7 +32,7 @@ make-by false false = refl
 
 make-refusals : (g : Settings) → member (makeRefusal g) (0 ∷ 2 ∷ 3 ∷ []) ≡ true
 unfolding makeRefusal
-make-refusals g = make-by (badSecret (g .secret)) (badName (g .name))
+make-refusals g = make-by (badSecret (g .secret)) (badNasId (g .«nas_id»))
 
 -- ---- dropping
 

@@ -75,7 +75,7 @@ module _ (g : Settings) (t b p : List ℕ) (clock : ℕ) where
           timeout-same = λ e. E.timeout-same (areaOf p) t k l h e;
           idle = λ a e y. E.idle-after (areaOf p) t k l h a e (fits-byte (areaOf p) y);
           idle-same = λ e. E.idle-same (areaOf p) t k l h e;
-          filter = λ a e. E.filter-after (areaOf p) t k l h a e (filter-first (codeOf p) (g .address) (g .name) (areaOf p) no-cause 11 a e refl);
+          filter = λ a e. E.filter-after (areaOf p) t k l h a e (filter-first (codeOf p) (g .«nas_ip») (g .«nas_id») (areaOf p) no-cause 11 a e refl);
           filter-same = λ e. E.filter-same (areaOf p) t k l h e;
           port-same = E.port-same (areaOf p) t k l h;
           address-same = E.address-same (areaOf p) t k l h;

@@ -8,7 +8,7 @@ use Rattle.das_answer.specs.declared.Answer as D
 use Rattle.das_answer.specs.declared.Answer.the-variants as A
 use Rattle.das_answer.specs.Replies.{replyAs}
 use Rattle.das_handle.specs.Handle.{tableAs}
-use Rattle.das_answer.specs.Told.{silent}
+use Rattle.das_answer.specs.Replied.{silent}
 
 pub silent-table-by : (p t : List ℕ) (a : D.Answer) → silent a ≡ true → tableAs p t a ≡ t
 silent-table-by p t (A.Refused n) h = refl

@@ -37,7 +37,7 @@ use Rattle.dac_write.specs.declared.Written.the-variants.{Done}
 use Rattle.dac_write.specs.Writer.{Draft, writeRefusal, requestOf, writeAnswer, writeOutput}
 use Rattle.dac_check.specs.declared.Checked.the-variants.{Right}
 use Rattle.dac_check.specs.ReplyCheck.{checkAnswer}
-use Rattle.das_answer.specs.Told.{silent, replySize}
+use Rattle.das_answer.specs.Replied.{silent, replySize}
 
 -- a list of bytes
 abbrev pub Bytes : List ℕ → Type 0

@@ -10,7 +10,7 @@ use lib.Dec.{eqb}
 use Rattle.attr_walk.specs.declared.Attribute.{Attribute}
 use Rattle.attr_walk.specs.declared.Search.the-variants.{At}
 use Rattle.attr_walk.specs.Attributes.{attributes, any, found, firstOf, countOf, kindIs}
-use Rattle.attr_types.specs.Types.{supported, unsupportedIn, misfitOf, misfitting, among, criteria, firstRepeated, also, none}
+use Rattle.attr_types.specs.Types.{supported, unsupportedIn, misfitOf, misfitting, among, namingTypes, firstRepeated, also, none}
 use Rattle.rule_causes.specs.declared.Cause.the-variants.{MissingAttribute}
 use Rattle.rule_causes.specs.Causes.{mismatched, missing, invalid, causeOf}
 use Rattle.thm_examples.specs.Sizes.{emptyOf}
@@ -53,18 +53,18 @@ module _ (s : List ℕ) (alone : any other (attributes s) ≡ false) (filled : a
   unfolding misfitOf
   none-misfits = none-of misfitting (λ a e. rw e) (λ a e h. rw (e, h))
 
-  none-differs : (address : ℕ) (name : List ℕ) → any (mismatched address name s) (attributes s) ≡ false
-  none-differs address name = none-of (mismatched address name s) (λ a e. rw e) (λ a e h. rw e)
+  none-differs : («nas_ip» : ℕ) («nas_id» : List ℕ) → any (mismatched «nas_ip» «nas_id» s) (attributes s) ≡ false
+  none-differs «nas_ip» «nas_id» = none-of (mismatched «nas_ip» «nas_id» s) (λ a e. rw e) (λ a e h. rw e)
 
   -- none of a type that is neither
   pub none-kind : (k : ℕ) → eqb 55 k ≡ false → eqb 33 k ≡ false → any (kindIs k) (attributes s) ≡ false
   none-kind k f g = none-of (kindIs k) (λ a e. rw e f) (λ a e h. rw e g)
 
-  none-names : any (among criteria) (attributes s) ≡ false
-  none-names = none-of (among criteria) (λ a e. rw e) (λ a e h. rw e)
+  none-names : any (among namingTypes) (attributes s) ≡ false
+  none-names = none-of (among namingTypes) (λ a e. rw e) (λ a e h. rw e)
 
-  pub cause-missing : countOf (kindIs 55) (attributes s) ≡ 1 → (code address : ℕ) (name : List ℕ) → causeOf code address name s ≡ MissingAttribute
+  pub cause-missing : countOf (kindIs 55) (attributes s) ≡ 1 → (code «nas_ip» : ℕ) («nas_id» : List ℕ) → causeOf code «nas_ip» «nas_id» s ≡ MissingAttribute
   unfolding causeOf invalid missing
-  cause-missing once code address name =
+  cause-missing once code «nas_ip» «nas_id» =
       let single : found (firstRepeated none (attributes s)) ≡ false = once-only none (attributes s) alone (omega arith) in
-      rw (all-supported code, none-kind 6 refl refl, single, none-misfits, none-differs address name, none-names)
+      rw (all-supported code, none-kind 6 refl refl, single, none-misfits, none-differs «nas_ip» «nas_id», none-names)

@@ -42,7 +42,7 @@ pub record Marked (g : Settings) (signed : Bool) (p : List ℕ) (clock : ℕ) : 
   pub two-blocks : blockCount 56 ≡ 2
   pub most-blocks : blockCount 4160 ≡ 66
   -- Stamp 300 below the clock passes D6, and the causes are next
-  pub near : (stamp : ℕ) → stampVerdict g p (stamp + 300) (Usable stamp) ≡ freshVerdict (g .address) (g .name) p (negℤ (pos 300))
+  pub near : (stamp : ℕ) → stampVerdict g p (stamp + 300) (Usable stamp) ≡ freshVerdict (g .«nas_ip») (g .«nas_id») p (negℤ (pos 300))
   -- 301 below is D6, skew -301
   pub far : (stamp : ℕ) → stampVerdict g p (stamp + 301) (Usable stamp) ≡ Stale (negℤ (pos 301))
   -- Stamp 4294967295 at clock 0: D6, skew 4294967295

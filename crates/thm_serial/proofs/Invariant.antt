@@ -11,7 +11,7 @@ use native.Mathlib.Omega.{arith}
 use lib.ListN.{length, getD, set, List·getD-map}
 use lib.Seq.{getD-set-same, getD-set-other}
 use Rattle.table_slots.specs.Marks.{marksAfter}
-use Rattle.nas_settings.specs.Settings.{Settings, badSecret, badName}
+use Rattle.nas_settings.specs.Settings.{Settings, badSecret, badNasId}
 use Rattle.sched_job.specs.declared.Job as B
 use Rattle.sched_job.specs.declared.Stage as S
 use Rattle.sched_job.specs.declared.Stage.the-variants.{Free, Hash, Check, Match}
@@ -24,7 +24,7 @@ use Rattle.thm_serial.proofs.JobInvariant.{Place, Holding}
 -- a secret and an identity that making does not refuse
 pub record Made (g : Settings) : Type 0 where
   pub secret-good : badSecret (g .secret) ≡ false
-  pub name-good : badName (g .name) ≡ false
+  pub name-good : badNasId (g .«nas_id») ≡ false
   pub short : length (g .secret) ≤ 64
 
 -- the serial execution beside a scheduler: its settings, its table, and these notes

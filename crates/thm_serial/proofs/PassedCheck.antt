@@ -35,7 +35,7 @@ pub record Passing (g : Settings) (signed : Bool) (p : List ℕ) (clock : ℕ) :
   pub verdict : checkVerdict g signed p clock ≡ J.Passed (skewAt (stampOf (areaOf p)) clock)
   pub stamped : usable (stampOf (areaOf p)) ≡ true
   pub even : any oddMac (attributes (areaOf p)) ≡ false
-  pub uncaused-is : applies (causeOf (codeOf p) (g .address) (g .name) (areaOf p)) ≡ false
+  pub uncaused-is : applies (causeOf (codeOf p) (g .«nas_ip») (g .«nas_id») (areaOf p)) ≡ false
 
 -- ---- D5
 

@@ -9,7 +9,7 @@ use native.Mathlib.Omega.{arith}
 use borrow.Author.Tests.{ne-eqb, le-ltb}
 use lib.ListN.{length, take, getD, replicate}
 use lib.Seq.{length-take-le}
-use Rattle.nas_settings.specs.Settings.{badSecret, badName}
+use Rattle.nas_settings.specs.Settings.{badSecret, badNasId}
 use Rattle.sched_job.specs.Job.{freeJob, isOpen}
 use Rattle.sched_state.specs.declared.Scheduler as D
 use Rattle.sched_state.specs.Scheduler.{settingsOf, jobAt, openAt, Ours}
@@ -43,13 +43,13 @@ run-after (c ∷ cs) ds w = run-after cs ds (call c w .world)
 -- ---- a newly made scheduler
 
 made : (s : D.Scheduler) → Ours s → Made (settingsOf s)
-unfolding badSecret badName
+unfolding badSecret badNasId
 made s o =
     let k : length (take (s .«secret_size») (s .secret)) ≡ s .«secret_size» = length-take-le (s .«secret_size») (s .secret) (omega (arith, o .secret-high, o .secret-room)) in
-    let n : length (take (s .«name_size») (s .name)) ≡ s .«name_size» = length-take-le (s .«name_size») (s .name) (omega (arith, o .name-high, o .name-room)) in
+    let n : length (take (s .«nas_id_size») (s .«nas_id»)) ≡ s .«nas_id_size» = length-take-le (s .«nas_id_size») (s .«nas_id») (omega (arith, o .name-high, o .name-room)) in
     record {
       secret-good = rw (k, ne-eqb (s .«secret_size») 0 (λ e. omega (arith, o .secret-low)), le-ltb 64 (s .«secret_size») (o .secret-high));
-      name-good = rw (n, ne-eqb (s .«name_size») 0 (λ e. omega (arith, o .name-low)), le-ltb 32 (s .«name_size») (o .name-high));
+      name-good = rw (n, ne-eqb (s .«nas_id_size») 0 (λ e. omega (arith, o .name-low)), le-ltb 32 (s .«nas_id_size») (o .name-high));
       short = rw k (o .secret-high);
     }
 

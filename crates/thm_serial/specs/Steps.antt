@@ -6,7 +6,7 @@ use Prim.Native.Nat.{ℕ}
 use lib.Dec.{ltb}
 use Rattle.table_slots.specs.Slot.{slotCount}
 use Rattle.das_answer.specs.declared.Answer as A′
-use Rattle.das_answer.specs.Told.{silent}
+use Rattle.das_answer.specs.Replied.{silent}
 use Rattle.sched_job.specs.declared.Stage as S
 use Rattle.sched_job.specs.declared.Stage.the-variants.{Free, Hash, Check, Match}
 use Rattle.sched_state.specs.declared.Outcome as O

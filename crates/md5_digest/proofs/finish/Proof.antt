@@ -13,7 +13,7 @@ returns-2 c =
     let end = c .before .before .before .before .before in
     let fill = end .before .before .before .before .before .before in
     let mark = fill .before .before .before .before .before in
-    λ m held. two-blocks _ m _ _ held (search needs) _ _ _ _ _ _ (mark .put-mark .ensures) (fill .fill .ensures) (end .before .before .blocks3 .ensures) (end .put-end2 .ensures) (search needs) (c .before .blocks4 .ensures) (c .bytes-of2 .ensures)
+    λ m held. two-blocks _ m _ _ held (search needs) _ _ _ _ _ _ (mark .put-first .ensures) (fill .fill .ensures) (end .before .before .blocks3 .ensures) (end .put-end2 .ensures) (search needs) (c .before .blocks4 .ensures) (c .bytes-of2 .ensures)
 
 pub finish-spec : {M : Type 1} → statement M
 finish-spec =

@@ -1,7 +1,7 @@
 -- `rule_stamp::stamp_of` meets its contract: the pass kept count, length and end of type 55.
 -- Assumes nothing.
 use borrow.Author.Needs.{needs}
-use Rattle.rule_stamp.proofs.Kept.{stamp-low, stamp-room, stamp-usable, stamp-size, stamp-count}
+use Rattle.rule_stamp.proofs.StampKept.{stamp-low, stamp-room, stamp-usable, stamp-size, stamp-count}
 use Rattle.rule_stamp.proofs.stamp_of.Statement.{statement}
 use Rattle.rule_stamp.proofs.stamp_of.Tie as tie
 

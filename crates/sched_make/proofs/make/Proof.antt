@@ -20,7 +20,7 @@ made c =
     let keyed = named .before .before in
     let start = keyed .before .before .before .before .before .before in (
       search (needs, made-number),
-      made-left _ _ _ _ (keyed .before .bad-secret .ensures) (keyed .if1 .left) _ (named .before .bad-name .ensures) (named .if2 .left) _ _ _ _ _ _ _ _ _
+      made-left _ _ _ _ (keyed .before .bad-secret .ensures) (keyed .if1 .left) _ (named .before .bad-nas-id .ensures) (named .if2 .left) _ _ _ _ _ _ _ _ _
           (free .0) (free .1 .0) (free .1 .1 .0) (free .1 .1 .1) (kept .keep .ensures) (start .pre .0) (own .keep2 .ensures) (start .pre .1),
     )
 

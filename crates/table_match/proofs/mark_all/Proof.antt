@@ -9,7 +9,7 @@ use Rattle.table_slots.specs.Slot.{live}
 use Rattle.table_slots.proofs.Count.{Counted, counted-is}
 use Rattle.table_slots.specs.Marks.{marksAfter}
 use Rattle.table_slots.proofs.Marked.{marks-start}
-use Rattle.table_criteria.specs.Matching.{all, listed, meets, matchesAt}
+use Rattle.table_criteria.specs.Meets.{all, listed, meets, matchesAt}
 use Rattle.table_criteria.proofs.Walk.{walk-starts, walk-next, inside-at}
 use Rattle.table_match.proofs.Turns.{turn-free, turn-fails, turn-dead, turn-meets, turns-end}
 use borrow.Author.Needs.{needs}

@@ -5,7 +5,7 @@ use mathlib.Core.Path.{_≡_}
 use mathlib.Core.Bool.{_&&_}
 use lib.ListN.{length, drop}
 use Rattle.table_slots.specs.Slot.{live}
-use Rattle.table_criteria.specs.Matching.{all, listed, meets, matchesAt}
+use Rattle.table_criteria.specs.Meets.{all, listed, meets, matchesAt}
 use Rattle.table_criteria.proofs.Walk.{walk-free, walk-starts, walk-fails, walk-next, walk-ends}
 use borrow.Author.Needs.{needs}
 use Rattle.table_match.proofs.match_slot.Statement.{statement}

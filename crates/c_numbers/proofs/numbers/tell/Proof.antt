@@ -1,7 +1,7 @@
 -- `c_numbers::numbers::tell` meets its contract: an arm for each variant gives all its numbers.
 -- Assumes nothing.
 use borrow.Author.Needs.{needs}
-use Rattle.c_numbers.proofs.Told.{told-refused, told-discarded, told-stale, told-nak, told-ack, nak-fits, ack-few, ack-fits}
+use Rattle.c_numbers.proofs.Numbered.{told-refused, told-discarded, told-stale, told-nak, told-ack, nak-fits, ack-few, ack-fits}
 use Rattle.c_numbers.proofs.numbers.tell.Statement.{statement}
 use Rattle.c_numbers.proofs.numbers.tell.Tie as tie
 

@@ -1,4 +1,4 @@
--- `packet_blocks::blocks::lay_padding` meets its contract: the mark with its zeros, and the count after them.
+-- `packet_blocks::blocks::lay_padding` meets its contract: its first byte with zeros, and the count after them.
 -- Assumes nothing.
 use borrow.Author.Needs.{needs}
 use native.Mathlib.Omega.{arith}

@@ -1,7 +1,7 @@
 -- `sched_rows::reading::secret_in` meets its contract: what is brought inside is inside.
 -- Assumes nothing.
 use borrow.Author.Needs.{needs}
-use Rattle.sched_rows.proofs.Kept.{within}
+use Rattle.sched_rows.proofs.ReadOurs.{within}
 use Rattle.sched_rows.proofs.reading.secret_in.Statement.{statement}
 use Rattle.sched_rows.proofs.reading.secret_in.Tie as tie
 

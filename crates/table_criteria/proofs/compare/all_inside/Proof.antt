@@ -3,7 +3,7 @@
 use Prim.Native.Nat.{_≤_, _-_}
 use mathlib.Core.Path.{_≡_}
 use lib.ListN.{drop}
-use Rattle.table_criteria.specs.Matching.{inside, all, listed}
+use Rattle.table_criteria.specs.Meets.{inside, all, listed}
 use Rattle.table_criteria.proofs.Walk.{inside-fails, inside-next, inside-ends}
 use borrow.Author.Needs.{needs}
 use Rattle.table_criteria.proofs.compare.all_inside.Statement.{statement}

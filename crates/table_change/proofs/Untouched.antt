@@ -15,11 +15,11 @@ use Rattle.octet_numbers.proofs.Numbers.{length-beBytes}
 use Rattle.octet_numbers.proofs.Part.{byte-part, part-before, part-after}
 use Rattle.table_slots.specs.Slot.{live, within, text}
 use Rattle.table_slots.proofs.Live.{within-is}
-use Rattle.table_slots.proofs.Kept.{live-by, live-user, live-id, live-station, live-filter}
+use Rattle.table_slots.proofs.Apart.{live-by, live-user, live-id, live-station, live-filter}
 use Rattle.table_criteria.specs.declared.Criterion.{Criterion}
 use Rattle.table_criteria.specs.declared.Field.{Field}
 use Rattle.table_criteria.specs.declared.Field.the-variants.{UserName, NasPort, FramedAddress, CallingStation, SessionId}
-use Rattle.table_criteria.specs.Matching.{fieldBytes, meets, all, matches}
+use Rattle.table_criteria.specs.Meets.{fieldBytes, meets, all, matches}
 use Rattle.table_records.specs.Record.{textField}
 use Rattle.table_records.proofs.Fields.{length-textField}
 use Rattle.table_records.proofs.Texts.{field-written, head-there}

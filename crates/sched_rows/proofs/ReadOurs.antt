@@ -66,8 +66,8 @@ module _ (z : ℕ) (ws ks ps ms : List (List ℕ)) where
   unfolding jobsIn
   jobs-four = refl
 
-pub read-ours : (h : Held) → length (h .secret) ≡ 64 → length (h .name) ≡ 32 → Ours (schedulerIn h)
-read-ours h secret name =
+pub read-ours : (h : Held) → length (h .secret) ≡ 64 → length (h .«nas_id») ≡ 32 → Ours (schedulerIn h)
+read-ours h secret «nas_id» =
     let s = limits 1 64 (h .secretSize) (omega arith) in
     let n = limits 1 32 (h .nameSize) (omega arith) in
     record {
@@ -76,7 +76,7 @@ read-ours h secret name =
       name-low = n .0;
       name-high = n .1;
       secret-room = secret;
-      name-room = name;
+      name-room = «nas_id»;
       four = jobs-four (secretIn (h .secretSize)) (h .words) (h .kinds) (h .places) (h .marks);
       each = each-ours (secretIn (h .secretSize)) (h .words) (h .kinds) (h .places) (h .marks);
     }
