@@ -15,7 +15,7 @@ use Rattle.packet_form.specs.Discards.{formOf, Sized}
 use Rattle.packet_mac.specs.Discards.{badMac}
 use Rattle.rule_verdict.specs.Discards.{signedBy}
 use Rattle.packet_write.proofs.Packets.{length-signed, packet-low}
-use Rattle.das_reply.proofs.Readback.{head-four, signed-length}
+use Rattle.packet_laws.proofs.Readback.{head-four, signed-length}
 use Rattle.dac_write.specs.Writer.{Draft, badGiven, writeRefusal, requestLength, requestOf, writeOutput}
 use Rattle.dac_write.proofs.Refusals.{taken}
 use Rattle.thm_exchange.proofs.Padded.{same-form, same-signed, same-mac}
