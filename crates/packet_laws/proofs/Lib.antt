@@ -3,3 +3,4 @@ pub mod Trailing
 pub mod Readback
 pub mod Signatures
 pub mod Passing
+pub mod SameBytes
