@@ -40,9 +40,10 @@ module _ (p : List ℕ) (good : formOf p ≡ 0) (store : List ℕ) (j : ℕ) whe
   -- the job's part is the packet
   pub opened-same : j < 4 → length store ≡ 16384 → SamePacket p (partOf j (write store (j * 4096) (take (lengthOf p) p)))
   opened-same low size =
-      let room : length (partOf j (write store (j * 4096) (take (lengthOf p) p))) ≡ 4096 =
-      length-part (j * 4096) 4096 (write store (j * 4096) (take (lengthOf p) p)) (rw (length-write store (j * 4096) (take (lengthOf p) p)) (omega arith)) in
-      same-packet p (partOf j (write store (j * 4096) (take (lengthOf p) p))) (lengthOf p) sized (rw room (sized .high)) (read-back low size)
+      let after : List ℕ = write store (j * 4096) (take (lengthOf p) p) in
+      let long : length after ≡ 16384 = length-write store (j * 4096) (take (lengthOf p) p) ∙ size in
+      let room : length (partOf j after) ≡ 4096 = length-part (j * 4096) 4096 after (omega arith) in
+      same-packet p (partOf j after) (lengthOf p) sized (rw room (sized .high)) (read-back low size)
 
   -- the others are kept
   pub opened-other : (i : ℕ) → i ≢ j → partOf i (write store (j * 4096) (take (lengthOf p) p)) ≡ partOf i store
