@@ -20,7 +20,7 @@ use Rattle.nas_settings.specs.Settings.{Settings}
 use Rattle.packet_form.specs.Discards.{formOf}
 use Rattle.rule_verdict.specs.Discards.{signedBy}
 use Rattle.rule_verdict.specs.Verdict.{checkVerdict, verdictOf}
-use Rattle.packet_form.proofs.Forms.{good-sized, form-good}
+use Rattle.packet_form.proofs.Forms.{form-sized}
 use Rattle.das_reply_parts.specs.Reply.{replyLength}
 use Rattle.das_effects.specs.Matching.{matchesIn, matchCount}
 use Rattle.das_answer.specs.declared.Answer as D
@@ -44,7 +44,7 @@ changeCount (A.Ack m k n) = m
 module _ (g : Settings) (p : List ℕ) (clock m : ℕ) (cap : formOf p ≡ 0 → lengthOf p ≤ m) where
   by-signed : (b : Bool) → formOf p ≡ 0 → answered (checkVerdict g b p clock) ≡ true → (c : C.Cause) → replyLength p c ≤ m
   unfolding checkVerdict
-  by-signed true z h c = omega (arith, cap z, fits g p clock (checkVerdict g true p clock) refl (lengthOf p) c (good-sized p (lengthOf p) (form-good p z) refl) h)
+  by-signed true z h c = omega (arith, cap z, fits g p clock (checkVerdict g true p clock) refl (lengthOf p) c (form-sized p z) h)
   by-signed false z h c = absurd (false≢true h)
 
   by-form : (signed b : Bool) → eqb (formOf p) 0 ≡ b → answered (cond b (checkVerdict g signed p clock) (J.Discarded (formOf p))) ≡ true → (c : C.Cause) → replyLength p c ≤ m
@@ -82,7 +82,7 @@ pub reply-bound : (g : Settings) (t b p : List ℕ) (clock : ℕ) → replySize 
 reply-bound g t b p clock = size-bound g t b p clock (lengthOf p) (λ z. omega arith)
 
 pub reply-most : (g : Settings) (t b p : List ℕ) (clock : ℕ) → replySize (handleAnswer g t b p clock) ≤ 4096
-reply-most g t b p clock = size-bound g t b p clock 4096 (λ z. good-sized p (lengthOf p) (form-good p z) refl .high)
+reply-most g t b p clock = size-bound g t b p clock 4096 (λ z. form-sized p z .high)
 
 -- ---- no more sessions than slots
 

@@ -9,7 +9,7 @@ use Rattle.packet_form.specs.Packet.{codeOf, identifierOf, lengthOf, authOf, ar
 use Rattle.rule_causes.specs.Causes.{applies}
 use Rattle.das_reply_parts.specs.Reply.{bodyOf, maced, replyLength, headOf, replyMac, replyAuth, replyOf}
 use Rattle.packet_write.specs.Packets.{macValued, packet, packetLength, signedPacket}
-use Rattle.das_reply.proofs.Readback.{signed-code, signed-identifier, signed-length, signed-auth, signed-area}
+use Rattle.packet_laws.proofs.Readback.{signed-code, signed-identifier, signed-length, signed-auth, signed-area}
 
 module _ (secret p : List ℕ) (c : Cause) where
   pub reply-is : replyOf secret p c ≡ signedPacket secret (authOf p) (headOf p c) (bodyOf p c) (maced p)

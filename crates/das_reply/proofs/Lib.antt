@@ -1,13 +1,8 @@
 pub mod Sums
 pub mod Fitting
 pub mod Judged
-pub mod Readback
-pub mod Signatures
 pub mod Back
-pub mod Plain
-pub mod Trailing
 pub mod Tilings
 pub mod Seals
-pub mod Passing
 pub mod Replying
 pub mod Fresh

@@ -9,8 +9,8 @@ use Rattle.packet_form.specs.Packet.{authOf}
 use Rattle.packet_form.specs.Discards.{Sized}
 use Rattle.das_reply_parts.specs.Reply.{bodyOf, maced, replyLength, headOf, replyMac, replyAuth, replyOf}
 use Rattle.das_reply_parts.proofs.Lengths.{length-auth, length-head}
+use Rattle.packet_laws.proofs.Signatures.{packet-signed}
 use Rattle.das_reply.proofs.Back.{reply-auth}
-use Rattle.das_reply.proofs.Signatures.{packet-signed}
 
 module _ (secret p : List ℕ) (n : ℕ) (c : Cause) (sized : Sized p n) where
   right-auth : authenticator (authOf p) (replyOf secret p c) (replyLength p c) secret ≡ replyAuth secret p c

@@ -22,7 +22,7 @@ use Rattle.rule_causes.specs.declared.Cause.{Cause}
 use Rattle.rule_causes.specs.Causes.{applies, errorCause}
 use Rattle.packet_form.specs.Packet.{areaOf}
 use Rattle.das_reply_parts.specs.Reply.{asCame, ifFound, statePart, causePart, proxiesIn, proxyPart, bodyOf}
-use Rattle.das_reply.proofs.Plain.{Plain, plain-nil, plain-both, plain-bytes}
+use Rattle.packet_laws.proofs.Plain.{Plain, plain-nil, plain-both, plain-bytes}
 
 -- an attribute as it came
 came-plain : (s : List ℕ) (a : Attribute) → stepAt s (a .at) ≡ Found a (a .at + a .size) → (a .kind ≡ 80 → ⊥) → Plain (asCame s a)

@@ -69,6 +69,9 @@ pub good-sized : (p : List ℕ) (n : ℕ) → badLength p ≡ false → n ≡ be
 unfolding badLength
 good-sized p n e i = sized-of p n _ _ _ _ i refl refl refl refl e
 
+pub sized-good : (p : List ℕ) (n : ℕ) → Sized p n → badLength p ≡ false
+sized-good p n z = sym (length-cut p n (z .is) (omega (arith, z .low, z .given)) (z .low) (z .high)) ∙ le-ltb (length p) n (z .given)
+
 pub good-head : (p : List ℕ) (k : ℕ) → badLength p ≡ false → k ≤ 20 → k ≤ length p
 good-head p k e h = let z = good-sized p (be 2 2 p) e refl in omega arith
 
@@ -79,3 +82,6 @@ form-good p e = go (badLength p) refl
     go : (b : Bool) → badLength p ≡ b → b ≡ false
     go true h = absurd (omega (arith, rw h at e))
     go false h = refl
+
+pub form-sized : (p : List ℕ) → formOf p ≡ 0 → Sized p (lengthOf p)
+form-sized p e = good-sized p (lengthOf p) (form-good p e) refl

@@ -18,7 +18,7 @@ use Rattle.rule_causes.specs.declared.Cause as C
 use Rattle.rule_causes.specs.declared.Cause.the-variants.{SessionNotFound, NoCause}
 use Rattle.packet_form.specs.Packet.{lengthOf, areaOf}
 use Rattle.packet_form.specs.Discards.{formOf}
-use Rattle.packet_form.proofs.Forms.{good-sized, form-good}
+use Rattle.packet_form.proofs.Forms.{form-sized}
 use Rattle.rule_verdict.specs.declared.Verdict as R
 use Rattle.rule_verdict.specs.declared.Verdict.the-variants as J
 use Rattle.rule_verdict.specs.Verdict.{checkVerdict}
@@ -66,7 +66,7 @@ small-discarded d = small-answer (A.Discarded d) (omega arith) (omega arith)
 by-signed : (g : Settings) (q : List ℕ) (clock : ℕ) (b : Bool) → formOf q ≡ 0 → answered (checkVerdict g b q clock) ≡ true → (c : C.Cause)
     → replyLength q c ≤ 4096
 unfolding checkVerdict
-by-signed g q clock true z h c = let s = good-sized q (lengthOf q) (form-good q z) refl in omega (arith, s .high, fits g q clock (checkVerdict g true q clock) refl (lengthOf q) c s h)
+by-signed g q clock true z h c = let s = form-sized q z in omega (arith, s .high, fits g q clock (checkVerdict g true q clock) refl (lengthOf q) c s h)
 by-signed g q clock false z h c = absurd (false≢true h)
 
 judged-small : (j : B.Job) (q : List ℕ) (x : R.Verdict) → (answered x ≡ true → (c : C.Cause) → replyLength q c ≤ 4096)

@@ -23,7 +23,7 @@ use Rattle.rule_causes.specs.declared.Cause.the-variants.{NoCause}
 use Rattle.rule_causes.specs.Causes.{applies, causeOf}
 use Rattle.packet_form.specs.Packet.{codeOf, lengthOf, areaOf}
 use Rattle.packet_form.specs.Discards.{formOf}
-use Rattle.packet_form.proofs.Forms.{good-sized, form-good}
+use Rattle.packet_form.proofs.Forms.{form-sized}
 use Rattle.das_reply_parts.specs.Reply.{replyLength}
 use Rattle.das_reply.proofs.Fitting.{reply-short}
 use Rattle.das_reply.proofs.Judged.{stamp-six}
@@ -45,7 +45,7 @@ right-first Missing h g = absurd (false≢true g)
 
 stamped-short : (q : List ℕ) (x : T.Stamp) (c : C.Cause) → stampOf (areaOf q) ≡ x → usable x ≡ true → formOf q ≡ 0
     → (any (kindIs 80) (attributes (areaOf q)) ≡ true → sizeOf (firstOf (kindIs 80) (attributes (areaOf q))) ≡ 18) → replyLength q c ≤ 4096
-stamped-short q (Usable v) c e u z m = reply-short q (lengthOf q) c (good-sized q (lengthOf q) (form-good q z) refl) (stamp-six (areaOf q) v e) m
+stamped-short q (Usable v) c e u z m = reply-short q (lengthOf q) c (form-sized q z) (stamp-six (areaOf q) v e) m
 stamped-short q Unusable c e u z m = absurd (false≢true u)
 
 pub passed-short : (g : Settings) (n : ℕ) (q : List ℕ) → holdsPassed g n q ≡ true → (c : C.Cause) → replyLength q c ≤ 4096

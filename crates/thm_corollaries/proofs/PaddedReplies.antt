@@ -5,18 +5,18 @@ use mathlib.Core.Path.{_≡_, refl}
 use mathlib.Core.Bool.{Bool, true, false}
 use mathlib.Core.List.{List}
 use Prim.Native.Nat.{ℕ}
-use Rattle.packet_auth.proofs.Messages.{same-authenticator}
-use Rattle.packet_form.specs.Packet.{lengthOf, authOf}
+use Rattle.packet_form.specs.Packet.{authOf}
 use Rattle.packet_form.specs.Discards.{badLength, badAttributes, formOf}
+use Rattle.packet_laws.proofs.SameBytes.{same-signature, same-mac}
 use Rattle.dac_check.specs.ReplyCheck.{badRequest, badReply, wrongCode, wrongIdentifier, wrongAuthenticator, failureOf, checkAnswer}
 use Rattle.thm_corollaries.specs.Padding.{unpadded}
-use Rattle.thm_corollaries.proofs.Prefixes.{bad-same, form-same, same-parts}
+use Rattle.thm_corollaries.proofs.Prefixes.{bad-same, form-same, same-good}
 
 module _ (secret q r : List ℕ) where
   request-by : (b : Bool) → badLength q ≡ b → failureOf secret q r ≡ failureOf secret (unpadded q) r
   unfolding failureOf badRequest formOf wrongCode wrongIdentifier wrongAuthenticator
   request-by true e = rw (bad-same q, e)
-  request-by false e = let s = same-parts q e in rw (form-same q, s .code, s .identifier, s .auth)
+  request-by false e = let s = same-good q e in rw (form-same q, s .code, s .identifier, s .auth)
 
   pub request-checked : checkAnswer secret q r ≡ checkAnswer secret (unpadded q) r
   unfolding checkAnswer
@@ -26,17 +26,9 @@ module _ (secret q r : List ℕ) where
   unfolding failureOf badReply badAttributes wrongCode wrongIdentifier wrongAuthenticator
   reply-by true e = rw (bad-same r, e)
   reply-by false e =
-      let s = same-parts r e in
-      rw (
-        bad-same r,
-        s .mac (authOf q) secret,
-        s .area,
-        s .code,
-        s .identifier,
-        s .auth,
-        s .long,
-        same-authenticator (lengthOf r) (unpadded r) r (s .alike) (authOf q) secret,
-      )
+      let s = same-good r e in
+      let mac = same-mac r (unpadded r) s (authOf q) secret in
+      rw (bad-same r, mac, s .area, s .code, s .identifier, s .auth, same-signature r (unpadded r) s (authOf q) secret)
 
   pub reply-checked : checkAnswer secret q r ≡ checkAnswer secret q (unpadded r)
   unfolding checkAnswer

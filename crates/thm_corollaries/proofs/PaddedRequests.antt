@@ -10,10 +10,9 @@ use borrow.Author.Tests.{eqb-true}
 use lib.Dec.{eqb}
 use lib.Seq.{take-take}
 use Rattle.nas_settings.specs.Settings.{Settings}
-use Rattle.packet_auth.specs.Signing.{zeros}
-use Rattle.packet_auth.proofs.Messages.{same-authenticator}
 use Rattle.packet_form.specs.Packet.{lengthOf}
 use Rattle.packet_form.specs.Discards.{formOf}
+use Rattle.packet_laws.proofs.SameBytes.{SamePacket}
 use Rattle.rule_causes.specs.declared.Cause.the-variants.{SessionNotFound, NoCause}
 use Rattle.rule_verdict.specs.declared.Verdict as R
 use Rattle.rule_verdict.specs.declared.Verdict.the-variants as J
@@ -26,20 +25,16 @@ use Rattle.das_answer.specs.Replied.{silent}
 use Rattle.das_handle.specs.Handle.{answerOf, tableAs, handleAnswer, handleTable, handleReply}
 use Rattle.sched_state.specs.declared.Scheduler as S
 use Rattle.sched_state.specs.Calls.{openCalled, openStore}
-use Rattle.thm_serial.proofs.Same.{SamePacket}
+use Rattle.thm_exchange.proofs.Padded.{same-signed}
 use Rattle.thm_serial.proofs.SameAnswers.{check-same, length-same, buffer-same}
 use Rattle.thm_demands.proofs.Replied.{formed}
 use Rattle.thm_demands.proofs.Second.{demand2}
 use Rattle.thm_corollaries.specs.Padding.{unpadded}
-use Rattle.thm_corollaries.proofs.Prefixes.{form-same, same-packet}
+use Rattle.thm_corollaries.proofs.Prefixes.{form-same, same-formed}
 
 -- ---- two packets with the same parts
 
 module _ (p q : List ℕ) (s : SamePacket p q) where
-  signed-same : (secret : List ℕ) → signedBy secret q ≡ signedBy secret p
-  unfolding signedBy
-  signed-same secret = rw (s .long, s .auth, same-authenticator (lengthOf p) q p (s .alike) zeros secret)
-
   answer-as : (t : List ℕ) (x : R.Verdict) → answerOf q t x ≡ answerOf p t x
   unfolding countAnswer
   answer-as t (J.Discarded d) = refl
@@ -62,8 +57,8 @@ module _ (g : Settings) (t b p : List ℕ) (clock : ℕ) where
       ≡ answerOf p t (verdictOf g (signedBy (g .secret) p) p clock)
   unfolding verdictOf
   judged-by true e =
-      let s = same-packet p (eqb-true (formOf p) 0 e) in
-      rw (form-same p, e, signed-same p (unpadded p) s (g .secret), check-same p (unpadded p) s g clock (signedBy (g .secret) p))
+      let s = same-formed p (eqb-true (formOf p) 0 e) in
+      rw (form-same p, e, same-signed p (unpadded p) s (g .secret), check-same p (unpadded p) s g clock (signedBy (g .secret) p))
       (answer-as p (unpadded p) s t (checkVerdict g (signedBy (g .secret) p) p clock))
   judged-by false e = rw (form-same p, e)
 
@@ -81,7 +76,7 @@ module _ (g : Settings) (t b p : List ℕ) (clock : ℕ) where
       demand2 .judging g t b p clock .silent-table e
       ∙ sym (demand2 .judging g t b (unpadded p) clock .silent-table (ap silent answer-same ∙ e))
   table-by false e =
-      let s = same-packet p (formed g t b p clock e .form) in
+      let s = same-formed p (formed g t b p clock e .form) in
       rw answer-same (sym (table-as p (unpadded p) s t (handleAnswer g t b p clock)))
 
   pub table : handleTable g t b p clock ≡ handleTable g t b (unpadded p) clock
@@ -93,7 +88,7 @@ module _ (g : Settings) (t b p : List ℕ) (clock : ℕ) where
       demand2 .judging g t b p clock .silent-reply e
       ∙ sym (demand2 .judging g t b (unpadded p) clock .silent-reply (ap silent answer-same ∙ e))
   reply-by false e =
-      let s = same-packet p (formed g t b p clock e .form) in
+      let s = same-formed p (formed g t b p clock e .form) in
       rw answer-same (sym (buffer-same p (unpadded p) s (g .secret) b (handleAnswer g t b p clock)))
 
   pub reply : handleReply g t b p clock ≡ handleReply g t b (unpadded p) clock
@@ -104,7 +99,7 @@ module _ (g : Settings) (t b p : List ℕ) (clock : ℕ) where
 module _ (s : S.Scheduler) (p store : List ℕ) where
   opened-by : (clock : ℕ) (d : Bool) → eqb (formOf p) 0 ≡ d → openCalled s p clock store ≡ openCalled s (unpadded p) clock store
   unfolding openCalled
-  opened-by clock true e = rw (form-same p, e, same-packet p (eqb-true (formOf p) 0 e) .long)
+  opened-by clock true e = rw (form-same p, e, same-formed p (eqb-true (formOf p) 0 e) .long)
   opened-by clock false e = rw (form-same p, e)
 
   pub opened : (clock : ℕ) → openCalled s p clock store ≡ openCalled s (unpadded p) clock store
@@ -112,7 +107,7 @@ module _ (s : S.Scheduler) (p store : List ℕ) where
 
   stored-by : (d : Bool) → eqb (formOf p) 0 ≡ d → openStore s p store ≡ openStore s (unpadded p) store
   unfolding openStore
-  stored-by true e = rw (form-same p, e, same-packet p (eqb-true (formOf p) 0 e) .long, take-take (lengthOf p) (lengthOf p) p (omega arith))
+  stored-by true e = rw (form-same p, e, same-formed p (eqb-true (formOf p) 0 e) .long, take-take (lengthOf p) (lengthOf p) p (omega arith))
   stored-by false e = rw (form-same p, e)
 
   pub stored : openStore s p store ≡ openStore s (unpadded p) store

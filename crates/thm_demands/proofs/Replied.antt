@@ -14,7 +14,7 @@ use Rattle.nas_settings.specs.Settings.{Settings}
 use Rattle.packet_form.specs.Discards.{formOf, Sized}
 use Rattle.rule_verdict.specs.Discards.{signedBy}
 use Rattle.rule_verdict.specs.Verdict.{checkVerdict, verdictOf}
-use Rattle.packet_form.proofs.Forms.{good-sized, form-good}
+use Rattle.packet_form.proofs.Forms.{form-sized}
 use Rattle.das_reply_parts.specs.Reply.{replyLength}
 use Rattle.das_answer.specs.declared.Answer.the-variants as A
 use Rattle.das_handle.specs.Refusals.{refusalOf}
@@ -30,7 +30,7 @@ pub record Formed (g : Settings) (p : List ℕ) (clock : ℕ) : Type 0 where
 by-signed : (g : Settings) (p : List ℕ) (clock : ℕ) (b : Bool) → formOf p ≡ 0 → answered (checkVerdict g b p clock) ≡ true → Formed g p clock
 unfolding checkVerdict
 by-signed g p clock true z h =
-    let sized = good-sized p (lengthOf p) (form-good p z) refl in
+    let sized = form-sized p z in
     record { form = z; sized = sized; room = λ c. fits g p clock (checkVerdict g true p clock) refl (lengthOf p) c sized h }
 by-signed g p clock false z h = absurd (false≢true h)
 

@@ -16,9 +16,9 @@ use Rattle.packet_form.specs.Discards.{badLength, badAttributes, formOf, Sized}
 use Rattle.packet_mac.specs.Discards.{badMac}
 use Rattle.das_reply_parts.specs.Reply.{bodyOf, maced, replyLength, headOf, replyOf}
 use Rattle.das_reply_parts.proofs.Lengths.{length-auth}
+use Rattle.packet_laws.proofs.Passing.{packet-sized, packet-tiled, packet-authentic, packet-mac}
 use Rattle.das_reply.proofs.Back.{reply-is, length-is, reply-code, reply-identifier}
 use Rattle.das_reply.proofs.Tilings.{body-plain}
-use Rattle.das_reply.proofs.Passing.{packet-sized, packet-tiled, packet-authentic, packet-mac}
 use Rattle.dac_check.specs.ReplyCheck.{badRequest, badReply, wrongCode, wrongIdentifier, wrongAuthenticator, failureOf}
 
 one-or-two : (k : ℕ) (b : Bool) → (eqb (k + cond b 2 1) (k + 1) || eqb (k + cond b 2 1) (k + 2)) ≡ true

@@ -13,8 +13,8 @@ use Rattle.packet_auth.specs.Signing.{zeros}
 use Rattle.packet_form.specs.Packet.{areaOf}
 use Rattle.packet_write.specs.Packets.{macValued, packetMac}
 use Rattle.packet_write.proofs.Packets.{length-packetMac}
-use Rattle.das_reply.proofs.Readback.{signed-area}
-use Rattle.das_reply.proofs.Trailing.{trailing, trailer, trailing-attributes, trailing-value}
+use Rattle.packet_laws.proofs.Readback.{signed-area}
+use Rattle.packet_laws.proofs.Trailing.{trailing, trailer, trailing-attributes, trailing-value}
 use Rattle.dac_write.specs.Writer.{Draft, badGiven, writeRefusal, requestLength, requestHead, requestOf}
 use Rattle.dac_write.proofs.Refusals.{taken}
 use Rattle.thm_exchange.proofs.Requests.{request-is, length-is, plain-given, request-short}

@@ -15,10 +15,11 @@ use Rattle.packet_form.specs.Discards.{formOf, Sized}
 use Rattle.packet_mac.specs.Discards.{badMac}
 use Rattle.rule_verdict.specs.Discards.{signedBy}
 use Rattle.packet_write.proofs.Packets.{length-signed, packet-low}
-use Rattle.das_reply.proofs.Readback.{head-four, signed-length}
+use Rattle.packet_laws.proofs.Readback.{head-four, signed-length}
+use Rattle.packet_laws.proofs.SameBytes.{SamePacket, same-packet, same-mac}
 use Rattle.dac_write.specs.Writer.{Draft, badGiven, writeRefusal, requestLength, requestOf, writeOutput}
 use Rattle.dac_write.proofs.Refusals.{taken}
-use Rattle.thm_exchange.proofs.Padded.{same-form, same-signed, same-mac}
+use Rattle.thm_exchange.proofs.Padded.{same-signed}
 use Rattle.thm_exchange.proofs.Requests.{request-is, length-is, request-short, written-form, written-signed, written-maced}
 
 pub length-request : (secret : List ℕ) (d : Draft) → length (requestOf secret d) ≡ requestLength d
@@ -52,11 +53,15 @@ module _ (secret out : List ℕ) (d : Draft) (accepted : writeRefusal secret out
       rw (accepted, ← l)
       (part-written out 0 (requestOf secret d) (omega (arith, request-short d good, taken secret out d accepted .room)) ∙ sym (part-whole (requestOf secret d)))
 
+  same : SamePacket (requestOf secret d) (writeOutput secret out d)
+  unfolding part
+  same = same-packet (requestOf secret d) (writeOutput secret out d) (requestLength d) sized more first
+
   pub output-form : formOf (writeOutput secret out d) ≡ 0
-  output-form = same-form (requestOf secret d) (writeOutput secret out d) (requestLength d) sized more first ∙ written-form secret out d accepted
+  output-form = same .form ∙ written-form secret out d accepted
 
   pub output-signed : signedBy secret (writeOutput secret out d) ≡ true
-  output-signed = same-signed (requestOf secret d) (writeOutput secret out d) (requestLength d) sized more first secret ∙ written-signed secret out d accepted
+  output-signed = same-signed (requestOf secret d) (writeOutput secret out d) same secret ∙ written-signed secret out d accepted
 
   pub output-maced : badMac zeros secret (writeOutput secret out d) ≡ false
-  output-maced = same-mac (requestOf secret d) (writeOutput secret out d) (requestLength d) sized more first zeros secret ∙ written-maced secret out d accepted
+  output-maced = same-mac (requestOf secret d) (writeOutput secret out d) same zeros secret ∙ written-maced secret out d accepted

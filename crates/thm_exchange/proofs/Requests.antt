@@ -14,9 +14,9 @@ use Rattle.packet_mac.specs.Discards.{badMac}
 use Rattle.rule_verdict.specs.Discards.{signedBy}
 use Rattle.packet_write.specs.Rooms.{macRoom}
 use Rattle.packet_write.specs.Packets.{macValued, packetLength, signedPacket}
-use Rattle.das_reply.proofs.Plain.{Plain}
-use Rattle.das_reply.proofs.Readback.{signed-code}
-use Rattle.das_reply.proofs.Passing.{packet-sized, packet-tiled, packet-authentic, packet-mac}
+use Rattle.packet_laws.proofs.Plain.{Plain}
+use Rattle.packet_laws.proofs.Readback.{signed-code}
+use Rattle.packet_laws.proofs.Passing.{packet-sized, packet-tiled, packet-authentic, packet-mac}
 use Rattle.dac_write.specs.Writer.{Draft, badGiven, writeRefusal, requestLength, requestHead, requestOf}
 use Rattle.dac_write.proofs.Refusals.{taken}
 use Rattle.dac_write.proofs.Requesting.{given-short}

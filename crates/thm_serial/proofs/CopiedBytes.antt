@@ -13,11 +13,11 @@ use Rattle.octet_numbers.specs.Runs.{write}
 use Rattle.octet_numbers.proofs.Write.{byte-before, byte-after}
 use Rattle.packet_form.specs.Packet.{lengthOf}
 use Rattle.packet_form.specs.Discards.{formOf}
+use Rattle.packet_form.proofs.Forms.{form-sized}
 use Rattle.sched_state.specs.Scheduler.{openAt, lowestFree}
 use Rattle.sched_state.specs.Refusals.{openRefusal}
 use Rattle.sched_state.specs.Calls.{openStore}
 use Rattle.sched_state.specs.Runs.{Open, World, call}
-use Rattle.thm_serial.proofs.Same.{form-sized}
 
 -- ---- opening: x is the job that it takes, i a place of the store before the copied bytes or after them
 

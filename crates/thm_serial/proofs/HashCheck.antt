@@ -20,6 +20,8 @@ use Rattle.rule_verdict.specs.declared.Verdict.the-variants as J
 use Rattle.packet_form.specs.Packet.{lengthOf, authOf}
 use Rattle.nas_settings.specs.Settings.{Settings}
 use Rattle.packet_form.specs.Discards.{formOf, Sized}
+use Rattle.packet_form.proofs.Forms.{form-sized}
+use Rattle.packet_laws.proofs.SameBytes.{SamePacket}
 use Rattle.rule_verdict.specs.Discards.{signedBy}
 use Rattle.rule_verdict.specs.Verdict.{checkVerdict}
 use Rattle.das_reply_parts.specs.Reply.{replyLength}
@@ -32,9 +34,8 @@ use Rattle.sched_job.specs.declared.Stage.the-variants.{Hash, Check}
 use Rattle.packet_words.specs.Words.{wordsOf, hashState, wordsSigned}
 use Rattle.sched_reread.specs.Reread.{holds}
 use Rattle.sched_job.specs.Moves.{going, hashJob, checkedAs, checkMove}
-use Rattle.thm_serial.proofs.Same.{SamePacket, form-sized, same-holds}
 use Rattle.thm_serial.proofs.SameAnswers.{check-same, length-same}
-use Rattle.thm_serial.proofs.PassedCheck.{passing}
+use Rattle.thm_serial.proofs.PassedCheck.{same-holds, passing}
 use Rattle.thm_serial.proofs.JobInvariant.{blocksOf, wordsAt, Place, Right, ends-with, handled-as}
 
 module _ (g : Settings) (p : List ℕ) (clock : ℕ) (q t b : List ℕ) (open-to : refusalOf g t b ≡ 0) (good : formOf p ≡ 0) (same : SamePacket p q) where
@@ -94,7 +95,7 @@ module _ (g : Settings) (p : List ℕ) (clock : ℕ) (q t b : List ℕ) (open-to
   pub check-right : (j : B.Job) → j .length ≡ lengthOf p → j .clock ≡ clock → j .words ≡ wordsAt g p (blocksOf g p) → Right g p clock q t b (checkMove g j q) t
   unfolding checkMove storeJudged
   check-right j l c h =
-      let still : holds (j .length) q ≡ true = ap (λ (n : ℕ). holds n q) l ∙ same-holds p q same in
+      let still : holds (j .length) q ≡ true = ap (λ (n : ℕ). holds n q) l ∙ same-holds p q same good in
       let verdict : checkVerdict g (wordsSigned (j .words) q) q (j .clock) ≡ checkVerdict g (signedBy (g .secret) p) p clock =
       check-same p q same g (j .clock) (wordsSigned (j .words) q) ∙ rw (signed-words j h, c) in
       rw (still, verdict) (checked-right (checkVerdict g (signedBy (g .secret) p) p clock) j l c refl)

@@ -13,6 +13,7 @@ use Rattle.rule_verdict.specs.declared.Verdict.{Verdict}
 use Rattle.packet_form.specs.Packet.{lengthOf, areaOf}
 use Rattle.nas_settings.specs.Settings.{Settings}
 use Rattle.packet_form.specs.Discards.{formOf}
+use Rattle.packet_laws.proofs.SameBytes.{SamePacket}
 use Rattle.rule_verdict.specs.Discards.{signedBy}
 use Rattle.rule_verdict.specs.Verdict.{checkVerdict, verdictOf}
 use Rattle.das_effects.specs.Matching.{matchesIn}
@@ -31,7 +32,6 @@ use Rattle.packet_words.specs.Words.{wordsOf}
 use Rattle.sched_job.specs.Job.{freeJob}
 use Rattle.sched_job.specs.Moves.{done}
 use Rattle.sched_state.specs.Calls.{isAck}
-use Rattle.thm_serial.proofs.Same.{SamePacket}
 use Rattle.thm_serial.proofs.SameAnswers.{buffer-same}
 use Rattle.thm_serial.proofs.PassedCheck.{Passing}
 

@@ -1,4 +1,3 @@
-pub mod Same
 pub mod SameAnswers
 pub mod PassedCheck
 pub mod Parts

@@ -17,6 +17,7 @@ use Rattle.rule_verdict.specs.declared.Verdict.the-variants as J
 use Rattle.packet_form.specs.Packet.{lengthOf, areaOf}
 use Rattle.nas_settings.specs.Settings.{Settings}
 use Rattle.packet_form.specs.Discards.{formOf}
+use Rattle.packet_laws.proofs.SameBytes.{SamePacket}
 use Rattle.rule_verdict.specs.Discards.{signedBy}
 use Rattle.das_effects.specs.Matching.{matchesIn}
 use Rattle.das_answer.specs.Commit.{commitAnswer, commitTable}
@@ -26,7 +27,6 @@ use Rattle.das_handle.proofs.Walked.{commit-answer, commit-table}
 use Rattle.sched_job.specs.declared.Job as B
 use Rattle.sched_reread.specs.Reread.{holdsPassed}
 use Rattle.sched_job.specs.Moves.{going, matchJob, skewAt, commitMove, slotMove, slotTable}
-use Rattle.thm_serial.proofs.Same.{SamePacket}
 use Rattle.thm_serial.proofs.SameAnswers.{answer-same, table-same}
 use Rattle.thm_serial.proofs.PassedCheck.{Passing, passing-holds}
 use Rattle.thm_serial.proofs.JobInvariant.{Right, ends-with, handled-as}
@@ -71,5 +71,5 @@ module _ (g : Settings) (p : List ℕ) (clock : ℕ) (q t b : List ℕ) (open-to
       → Right g p clock q t b (slotMove g j k q t) (slotTable g j k q t)
   unfolding slotMove slotTable
   slot-right k j l c h i =
-      let still : holdsPassed g (j .length) q ≡ true = ap (λ (n : ℕ). holdsPassed g n q) l ∙ passing-holds g (signedBy (g .secret) p) p q clock same passed in
+      let still : holdsPassed g (j .length) q ≡ true = ap (λ (n : ℕ). holdsPassed g n q) l ∙ passing-holds p q same good g (signedBy (g .secret) p) clock passed in
       rw still (by-slot (ltb k (slotCount t)) k j refl l c h i)

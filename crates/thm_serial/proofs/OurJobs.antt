@@ -13,6 +13,7 @@ use Rattle.table_slots.specs.Slot.{slotCount}
 use Rattle.packet_form.specs.Packet.{lengthOf}
 use Rattle.nas_settings.specs.Settings.{Settings}
 use Rattle.packet_form.specs.Discards.{formOf}
+use Rattle.packet_form.proofs.Forms.{form-sized}
 use Rattle.das_answer.specs.declared.Answer.the-variants as A
 use Rattle.das_judge.specs.declared.Judged.{Judged}
 use Rattle.das_judge.specs.declared.Judged.the-variants.{Ended, Passed}
@@ -23,7 +24,6 @@ use Rattle.sched_job.specs.declared.Stage.the-variants.{Free, Hash, Check, Matc
 use Rattle.sched_job.specs.Job.{firstJob, restartedAt, restarted, Placed, JobOurs}
 use Rattle.sched_reread.specs.Reread.{holdsPassed}
 use Rattle.sched_job.specs.Moves.{going, done, hashJob, checkedAs, checkMove, matchJob, commitMove, slotMove, movedAt, moved}
-use Rattle.thm_serial.proofs.Same.{form-sized}
 use Rattle.thm_serial.proofs.OpenAgreement.{some-block}
 
 -- ---- a job; n is the secret's length

@@ -16,8 +16,9 @@ use Rattle.octet_numbers.proofs.Write.{length-write}
 use Rattle.octet_numbers.proofs.Part.{length-part, part-before, part-after, part-written}
 use Rattle.packet_form.specs.Packet.{lengthOf}
 use Rattle.packet_form.specs.Discards.{formOf, Sized}
+use Rattle.packet_form.proofs.Forms.{form-sized}
+use Rattle.packet_laws.proofs.SameBytes.{SamePacket, same-packet}
 use Rattle.sched_state.specs.Scheduler.{partOf}
-use Rattle.thm_serial.proofs.Same.{SamePacket, form-sized, same-packet}
 
 -- the first bytes of a part
 front : (n m at : ℕ) (l : List ℕ) → n ≤ m → take n (part at m l) ≡ part at n l
@@ -39,9 +40,10 @@ module _ (p : List ℕ) (good : formOf p ≡ 0) (store : List ℕ) (j : ℕ) whe
   -- the job's part is the packet
   pub opened-same : j < 4 → length store ≡ 16384 → SamePacket p (partOf j (write store (j * 4096) (take (lengthOf p) p)))
   opened-same low size =
-      same-packet p (partOf j (write store (j * 4096) (take (lengthOf p) p))) good
-      (length-part (j * 4096) 4096 (write store (j * 4096) (take (lengthOf p) p)) (rw (length-write store (j * 4096) (take (lengthOf p) p)) (omega arith)))
-      (read-back low size)
+      let after : List ℕ = write store (j * 4096) (take (lengthOf p) p) in
+      let long : length after ≡ 16384 = length-write store (j * 4096) (take (lengthOf p) p) ∙ size in
+      let room : length (partOf j after) ≡ 4096 = length-part (j * 4096) 4096 after (omega arith) in
+      same-packet p (partOf j after) (lengthOf p) sized (rw room (sized .high)) (read-back low size)
 
   -- the others are kept
   pub opened-other : (i : ℕ) → i ≢ j → partOf i (write store (j * 4096) (take (lengthOf p) p)) ≡ partOf i store

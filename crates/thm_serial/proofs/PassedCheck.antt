@@ -21,14 +21,15 @@ use Rattle.rule_stamp.specs.Stamp.{stampOf}
 use Rattle.rule_causes.specs.Causes.{applies, causeOf}
 use Rattle.rule_verdict.specs.declared.Verdict.the-variants as J
 use Rattle.packet_form.specs.Packet.{codeOf, lengthOf, areaOf}
+use Rattle.packet_form.specs.Discards.{formOf}
 use Rattle.nas_settings.specs.Settings.{Settings}
 use Rattle.packet_mac.specs.Discards.{badMac}
+use Rattle.packet_laws.proofs.SameBytes.{SamePacket}
 use Rattle.rule_verdict.specs.Verdict.{nakOr, freshVerdict, checkVerdict}
 use Rattle.das_reply.proofs.Judged.{mac-eighteen}
 use Rattle.das_reply.proofs.Fresh.{reached, uncaused}
-use Rattle.sched_reread.specs.Reread.{usable, oddMac, holdsPassed}
+use Rattle.sched_reread.specs.Reread.{usable, oddMac, holds, holdsPassed}
 use Rattle.sched_job.specs.Moves.{skewAt}
-use Rattle.thm_serial.proofs.Same.{SamePacket, same-holds}
 
 -- signed says that D4 does not apply
 pub record Passing (g : Settings) (signed : Bool) (p : List ℕ) (clock : ℕ) : Type 0 where
@@ -72,7 +73,15 @@ module _ (g : Settings) (p : List ℕ) (clock : ℕ) (k : ℤ) where
         uncaused-is = rw c;
       }
 
--- so it is found unaltered when it is read again
-pub passing-holds : (g : Settings) (signed : Bool) (p q : List ℕ) (clock : ℕ) → SamePacket p q → Passing g signed p clock → holdsPassed g (lengthOf p) q ≡ true
-unfolding holdsPassed
-passing-holds g signed p q clock s h = rw (same-holds p q s, s .area, s .code, h .stamped, h .even, h .uncaused-is)
+-- ---- read again
+
+module _ (p q : List ℕ) (s : SamePacket p q) (good : formOf p ≡ 0) where
+  -- found unaltered before Check
+  pub same-holds : holds (lengthOf p) q ≡ true
+  unfolding holds
+  same-holds = rw (s .form, good, s .long, eq-eqb (lengthOf p) (lengthOf p) refl)
+
+  -- and after it
+  pub passing-holds : (g : Settings) (signed : Bool) (clock : ℕ) → Passing g signed p clock → holdsPassed g (lengthOf p) q ≡ true
+  unfolding holdsPassed
+  passing-holds g signed clock h = rw (same-holds, s .area, s .code, h .stamped, h .even, h .uncaused-is)

@@ -1,39 +1,27 @@
 -- A packet read again from the store gets the verdict, the reply and the Commit of the packet itself: they look only at Length, code, identifier,
 -- authenticator and attributes, and at the bytes that the signatures cover, and all these are the same.
 -- Assumes nothing.
-use mathlib.Core.Path.{_≡_, refl, fun-ext}
+use mathlib.Core.Path.{_≡_, refl}
 use mathlib.Core.Bool.{Bool}
 use mathlib.Core.List.{List}
-use Prim.Native.Nat.{ℕ, _+_}
+use Prim.Native.Nat.{ℕ}
 use lib.IntN.{ℤ}
-use Rattle.attr_walk.specs.declared.Attribute.{Attribute}
 use Rattle.packet_auth.specs.Signing.{zeros}
-use Rattle.packet_auth.proofs.Messages.{same-messageAuthenticator}
 use Rattle.rule_stamp.specs.declared.Stamp.{Stamp}
 use Rattle.rule_stamp.specs.declared.Stamp.the-variants.{Usable, Unusable}
 use Rattle.rule_causes.specs.declared.Cause.{Cause}
 use Rattle.rule_causes.specs.declared.Cause.the-variants.{SessionNotFound, NoCause}
-use Rattle.packet_form.specs.Packet.{lengthOf}
 use Rattle.nas_settings.specs.Settings.{Settings}
-use Rattle.packet_mac.specs.Discards.{wrongMac, badMac}
 use Rattle.rule_verdict.specs.Verdict.{freshVerdict, stampVerdict, checkVerdict}
+use Rattle.packet_laws.proofs.SameBytes.{SamePacket, same-mac}
 use Rattle.das_reply_parts.specs.Reply.{bodyOf, replyLength, headOf, replyOf}
 use Rattle.das_answer.specs.declared.Answer as D
 use Rattle.das_answer.specs.declared.Answer.the-variants as A
 use Rattle.das_answer.specs.Replies.{replyAs}
 use Rattle.das_answer.specs.Commit.{countAnswer, commitAnswer, commitTable}
-use Rattle.thm_serial.proofs.Same.{SamePacket}
 
 module _ (p q : List ℕ) (s : SamePacket p q) where
   -- ---- the verdict
-
-  wrong-same : (secret : List ℕ) (a : Attribute) → wrongMac zeros secret q a ≡ wrongMac zeros secret p a
-  unfolding wrongMac
-  wrong-same secret a = rw (s .area, s .long, same-messageAuthenticator (lengthOf p) q p (s .alike) zeros (22 + a .at) secret)
-
-  mac-same : (secret : List ℕ) → badMac zeros secret q ≡ badMac zeros secret p
-  unfolding badMac
-  mac-same secret = rw (s .area, fun-ext (wrong-same secret))
 
   module _ (g : Settings) (clock : ℕ) where
     stamp-same : (x : Stamp) → stampVerdict g q clock x ≡ stampVerdict g p clock x
@@ -43,7 +31,7 @@ module _ (p q : List ℕ) (s : SamePacket p q) where
 
     pub check-same : (b : Bool) → checkVerdict g b q clock ≡ checkVerdict g b p clock
     unfolding checkVerdict
-    check-same b = rw (mac-same (g .secret), s .area, stamp-same)
+    check-same b = rw (same-mac p q s zeros (g .secret), s .area, stamp-same)
 
   -- ---- the reply
 

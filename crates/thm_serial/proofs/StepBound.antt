@@ -19,6 +19,7 @@ use Rattle.table_sessions.specs.declared.Removed.the-variants.{Gone, NotRemoved
 use Rattle.table_sessions.specs.Session.{insertAnswer, removeAnswer}
 use Rattle.packet_form.specs.Packet.{lengthOf}
 use Rattle.packet_form.specs.Discards.{formOf}
+use Rattle.packet_form.proofs.Forms.{form-sized}
 use Rattle.sched_job.specs.declared.Job as B
 use Rattle.sched_job.specs.declared.Ending as E
 use Rattle.sched_job.specs.declared.Ending.the-variants as K
@@ -34,7 +35,6 @@ use Rattle.sched_state.specs.declared.Called as C
 use Rattle.sched_state.specs.Runs.{Call, Open, Step, Drop, Start, End, World, call, run}
 use Rattle.thm_serial.specs.Serial.{Note, unnoted, noted}
 use Rattle.thm_serial.specs.Demand3.{quietBy, quiet, countsBy, stepsTaken}
-use Rattle.thm_serial.proofs.Same.{form-sized}
 use Rattle.thm_serial.proofs.JobInvariant.{Holding}
 use Rattle.thm_serial.proofs.Moves.{move-right}
 use Rattle.thm_serial.proofs.Invariant.{JobTied, Tied}

@@ -14,7 +14,7 @@ use Rattle.packet_auth.proofs.Blanked.{value-ignored}
 use Rattle.packet_auth.proofs.Messages.{Alike, same-authenticator, same-messageAuthenticator, length-zeros}
 use Rattle.packet_write.specs.Packets.{packet, packetLength, packetMac, packetAuth, signedPacket}
 use Rattle.packet_write.proofs.Packets.{length-packet, length-packetMac, length-packetAuth, ends-in}
-use Rattle.das_reply.proofs.Readback.{with-head, with-after}
+use Rattle.packet_laws.proofs.Readback.{with-head, with-after}
 
 module _ (secret base head body : List ℕ) (present : Bool) (four : length head ≡ 4) (sixteen : length base ≡ 16) where
   mac : List ℕ

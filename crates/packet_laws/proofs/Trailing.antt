@@ -10,7 +10,7 @@ use Rattle.attr_walk.specs.Attributes.{attributes, valueOf, tiled, firstOf, cou
 use Rattle.attr_walk.proofs.Areas.{tiled-both, attributes-append, nil-tiled, nil-attributes, bytes-tiled, bytes-attributes, bytes-value, value-after, lone}
 use Rattle.attr_walk.proofs.Searches.{any-none, count-append, first-after}
 use Rattle.packet_write.specs.Packets.{macValued}
-use Rattle.das_reply.proofs.Plain.{Plain}
+use Rattle.packet_laws.proofs.Plain.{Plain}
 
 -- the attribute itself, and where it is present the list of it
 abbrev pub trailing : List ℕ → List ℕ → Attribute

@@ -19,10 +19,10 @@ use Rattle.packet_form.specs.Discards.{badLength, badAttributes}
 use Rattle.packet_mac.specs.Discards.{wrongMac, badMac}
 use Rattle.packet_write.specs.Packets.{macValued, packetLength, packetMac, packetAuth, signedPacket}
 use Rattle.packet_write.proofs.Packets.{length-signed, length-packetMac, packet-low}
-use Rattle.das_reply.proofs.Plain.{Plain}
-use Rattle.das_reply.proofs.Trailing.{trailing, trailer, trailing-first, trailing-once, trailing-tiled, trailing-value}
-use Rattle.das_reply.proofs.Readback.{head-four, signed-length, signed-auth, signed-area}
-use Rattle.das_reply.proofs.Signatures.{packet-signed, packet-maced}
+use Rattle.packet_laws.proofs.Plain.{Plain}
+use Rattle.packet_laws.proofs.Trailing.{trailing, trailer, trailing-first, trailing-once, trailing-tiled, trailing-value}
+use Rattle.packet_laws.proofs.Readback.{head-four, signed-length, signed-auth, signed-area}
+use Rattle.packet_laws.proofs.Signatures.{packet-signed, packet-maced}
 
 -- code k, identifier i, Length n
 module _ (secret base body : List ℕ) (present : Bool) (k i n : ℕ) (plain : Plain body) (sixteen : length base ≡ 16) (is : n ≡ packetLength body present) (short : n ≤ 4096) where

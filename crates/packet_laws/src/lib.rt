@@ -1,0 +1,1 @@
+// Laws of every packet that is signed and read back, request and reply alike. No code.
