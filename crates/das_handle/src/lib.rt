@@ -30,7 +30,7 @@ fn refusal(t: &[u8], secret: &[u8], nas_ip: u32, nas_id: &[u8], reply: &[u8]) ->
     0
 }
 
-// A request that is not refused.
+// D1 to D6 and causes 1 to 7 of a request, else its ACK; no refusal applies.
 fn judged(
     t: &mut [u8],
     secret: &[u8],

@@ -8,7 +8,7 @@ ghost use Rattle.packet_auth.specs.Signing.{zeros, withAuth};
 ghost use Rattle.packet_blocks.specs.Block.{blockCount, requestBlock};
 ghost use Rattle.packet_blocks.specs.Window.{window};
 
-// The buffer is the block from place s on of a message of at bytes; then it is that of the message with v after it.
+// Adds v to a message of which buf shows 64 bytes, those from place s on. The message had at bytes; of v, what falls into the 64 is copied.
 fn lay(buf: &mut [u8], s: usize, at: usize, v: &[u8])
     requires { ⌜ length (now buf) ≡ 64 ⌝ }
     ensures { λ _. ⌜ ((m : List ℕ) → length m ≡ at → now (buf .entry) ≡ window s m → now (buf .exit) ≡ window s (m ++ now (v .entry))) ⌝ }

@@ -15,7 +15,7 @@ use Rattle.packet_auth.specs.Signing.{messageAuthenticator}
 unfoldable pub wrongMac : List ℕ → List ℕ → List ℕ → Attribute → Bool
 wrongMac auth secret p a = not (eqb (a .size) 18) || not (equalBytes (valueOf (areaOf p) a) (messageAuthenticator auth p (lengthOf p) (22 + a .at) secret))
 
--- type 80 more than once, or such a one. D5: in a request
+-- type 80 more than once, not of length 18, or wrong. Of a request this is D5
 unfoldable pub badMac : List ℕ → List ℕ → List ℕ → Bool
 badMac auth secret p =
     ltb 1 (countOf (kindIs 80) (attributes (areaOf p)))

@@ -62,7 +62,7 @@ pub fn first(n: usize, clock: u32) -> Job
     }
 }
 
-// It goes on.
+// What a step gives that did not finish its job.
 pub fn going(job: Job) -> Moved
     ensures { λ r. ⌜ r ≡ going job ⌝ }
 {
@@ -72,7 +72,7 @@ pub fn going(job: Job) -> Moved
     }
 }
 
-// It is finished, and free again.
+// What a step gives that finished its job with this answer: the job is free again.
 pub fn done(answer: das_answer::Answer) -> Moved
     ensures { λ r. ⌜ r ≡ done answer ⌝ }
 {

@@ -16,7 +16,7 @@ fn has_id(t: &[u8], k: usize, id: &[u8]) -> bool
     octet_runs::equal(id, table_slots::text_at(s, 82))
 }
 
-// Whether one of the first n slots is.
+// Whether one of the first n slots is live with this Acct-Session-Id.
 pub fn id_live(t: &[u8], n: usize, id: &[u8]) -> bool
     ensures { λ r. ⌜ r ≡ idLive (now (id .entry)) (now (t .entry)) n ⌝ }
 {
