@@ -9,7 +9,7 @@ use lib.ListN.{length, length-replicate}
 use Rattle.attr_walk.specs.declared.Attribute.{Attribute}
 use Rattle.attr_walk.specs.Attributes.{any, found, kindIs}
 use Rattle.attr_survey.specs.declared.Flags.{Flags}
-use Rattle.attr_types.specs.Types.{unsupportedIn, misfitting, among, namingTypes, changingTypes, firstRepeated, none}
+use Rattle.attr_types.specs.Types.{unsupportedType, misfitting, among, namingTypes, changingTypes, firstRepeated, none}
 use Rattle.attr_survey.specs.Survey.{zeros, seenAt, endOf, sizeOf, Counted}
 use Rattle.attr_survey.specs.Turns.{noFlags}
 use Rattle.attr_types.proofs.Repeats.{same-seen}
@@ -24,7 +24,7 @@ pub record Held (code : ℕ) (w l : List Attribute) (count ends sizes : List ℕ
   pub places : length ends ≡ 256
   pub lengths : length sizes ≡ 256
   pub tiled : f .tiled ≡ true
-  pub unsupported : Flag (unsupportedIn code) w l (f .unsupported)
+  pub unsupported : Flag (unsupportedType code) w l (f .unsupported)
   pub service : Flag (kindIs 6) w l (f .service)
   pub repeated : found (firstRepeated none w) ≡ (f .repeated || found (firstRepeated (seenAt count) l))
   pub misfit : Flag misfitting w l (f .misfit)

@@ -7,3 +7,4 @@ pub mod Turning
 pub mod Passes
 pub mod Areas
 pub mod UpToTwo
+pub mod VendorFlags

@@ -16,7 +16,7 @@ use Rattle.attr_walk.proofs.Steps.{step-inv, found-placed}
 use Rattle.attr_walk.proofs.Walks.{walk-end, walk-bad, walk-found, tiles-end, tiles-bad}
 use Rattle.attr_survey.specs.declared.Flags.{Flags}
 use Rattle.attr_types.specs.Classes.{classOf, says}
-use Rattle.attr_survey.specs.Survey.{Kept, Flagged, seenAt}
+use Rattle.attr_survey.specs.Survey.{Kept, Typed, seenAt}
 use Rattle.attr_survey.specs.Turns.{joinedBy, untiled, countedAt, keptAt}
 use Rattle.attr_types.proofs.Rules.{repeats-33, repeats-not}
 use Rattle.attr_survey.proofs.Held.{Held, ends-types}
@@ -55,7 +55,7 @@ module _ (code : ℕ) (s : List ℕ) (at : ℕ) (count ends sizes : List ℕ) (f
     kept = record { types = λ k h. ends-types code (attributes s) count ends sizes f whole k }
 
     flagged : (t : Bool) → t ≡ tiled s
-        → Flagged s code (record { tiled = t; unsupported = f .unsupported; service = f .service; repeated = f .repeated; misfit = f .misfit; criterion = f .criterion; change = f .change })
+        → Typed s code (record { tiled = t; unsupported = f .unsupported; service = f .service; repeated = f .repeated; misfit = f .misfit; criterion = f .criterion; change = f .change })
     flagged t y =
         record {
           tiles = y;
@@ -73,8 +73,8 @@ module _ (code : ℕ) (s : List ℕ) (at : ℕ) (count ends sizes : List ℕ) (f
   pub kept-bad : x ≡ Bad → Kept s count ends sizes
   kept-bad r = kept (walk-bad _ _ _ s at (sym q ∙ r))
 
-  pub flags-end : tiledFrom s 0 ≡ tiledFrom s at → x ≡ End → Flagged s code f
+  pub flags-end : tiledFrom s 0 ≡ tiledFrom s at → x ≡ End → Typed s code f
   flags-end t r = flagged (walk-end _ _ _ s at (sym q ∙ r)) (f .tiled) (i .tiled ∙ tiles-end s (tiledFrom s 0) at x t q r)
 
-  pub flags-bad : tiledFrom s 0 ≡ tiledFrom s at → x ≡ Bad → (g : Flags) → g ≡ untiled f → Flagged s code g
+  pub flags-bad : tiledFrom s 0 ≡ tiledFrom s at → x ≡ Bad → (g : Flags) → g ≡ untiled f → Typed s code g
   flags-bad t r g e = rw e (flagged (walk-bad _ _ _ s at (sym q ∙ r)) false (tiles-bad s (tiledFrom s 0) at x t q r))

@@ -12,7 +12,7 @@ use Rattle.attr_walk.specs.declared.Search.{Search}
 use Rattle.attr_walk.specs.declared.Search.the-variants.{At}
 use Rattle.attr_walk.specs.Attributes.{any, found, firstOf, kindIs}
 use Rattle.attr_survey.specs.declared.Flags.{Flags}
-use Rattle.attr_types.specs.Types.{unsupportedIn, misfitting, among, namingTypes, changingTypes, firstRepeated, also, none}
+use Rattle.attr_types.specs.Types.{unsupportedType, misfitting, among, namingTypes, changingTypes, firstRepeated, also, none}
 use Rattle.attr_types.specs.Classes.{classOf}
 use Rattle.attr_survey.specs.Survey.{seenAt, endOf, sizeOf}
 use Rattle.attr_survey.specs.Turns.{joinedBy, countedAt, keptAt}
@@ -52,7 +52,7 @@ module _ (code : ℕ) (w l : List Attribute) (a : Attribute) (count ends sizes :
     other k p = ne-eqb (a .kind) k (λ q. p (sym q ∙ e))
 
     -- with flags g that the rules on one attribute give, the rest stays
-    uncounted : (g : Flags) → g .tiled ≡ true → g .repeated ≡ f .repeated → Flag (unsupportedIn code) w l (g .unsupported) → Flag (kindIs 6) w l (g .service) → Flag misfitting w l (g .misfit)
+    uncounted : (g : Flags) → g .tiled ≡ true → g .repeated ≡ f .repeated → Flag (unsupportedType code) w l (g .unsupported) → Flag (kindIs 6) w l (g .service) → Flag misfitting w l (g .misfit)
         → Flag (among namingTypes) w l (g .criterion) → Flag (among changingTypes) w l (g .change) → Held code w l count ends sizes g
     uncounted g t r u v m c d =
         record {
@@ -77,7 +77,7 @@ module _ (code : ℕ) (w l : List Attribute) (a : Attribute) (count ends sizes :
     -- of another length than 2 it breaks no rule: it is supported in every request
     pub turn-33 : (a .size ≡ 2 → ⊥) → Held code w l count ends sizes f
     turn-33 n =
-        uncounted f (i .tiled) refl (flag-stays (unsupportedIn code) w l a (f .unsupported) (i .unsupported) (rw (e, supported-33 code)))
+        uncounted f (i .tiled) refl (flag-stays (unsupportedType code) w l a (f .unsupported) (i .unsupported) (rw (e, supported-33 code)))
         (flag-stays (kindIs 6) w l a (f .service) (i .service) (rw e))
         (flag-stays misfitting w l a (f .misfit) (i .misfit) (rw e (fits-33 (a .size) n)))
         (flag-stays (among namingTypes) w l a (f .criterion) (i .criterion) (rw e))
@@ -86,7 +86,7 @@ module _ (code : ℕ) (w l : List Attribute) (a : Attribute) (count ends sizes :
     pub turn-empty : Held code w l count ends sizes (joinedBy code (classOf (a .kind)) (a .size) false f)
     turn-empty =
         uncounted (joinedBy code (classOf (a .kind)) (a .size) false f) (i .tiled) (or-false (f .repeated))
-        (flag-joins (unsupportedIn code) w l a (f .unsupported) (i .unsupported) _ (lacks-class code (a .kind)))
+        (flag-joins (unsupportedType code) w l a (f .unsupported) (i .unsupported) _ (lacks-class code (a .kind)))
         (flag-joins (kindIs 6) w l a (f .service) (i .service) _ (says-service (a .kind)))
         (flag-joins misfitting w l a (f .misfit) (i .misfit) _ (misfit-class (a .kind) (a .size)))
         (flag-joins (among namingTypes) w l a (f .criterion) (i .criterion) _ (says-criterion (a .kind)))
@@ -104,7 +104,7 @@ module _ (code : ℕ) (w l : List Attribute) (a : Attribute) (count ends sizes :
         places = kept-long count ends (a .kind) (a .at + a .size) 256 (i .places);
         lengths = kept-long count sizes (a .kind) (a .size) 256 (i .lengths);
         tiled = i .tiled;
-        unsupported = flag-joins (unsupportedIn code) w l a (f .unsupported) (i .unsupported) _ (lacks-class code (a .kind));
+        unsupported = flag-joins (unsupportedType code) w l a (f .unsupported) (i .unsupported) _ (lacks-class code (a .kind));
         service = flag-joins (kindIs 6) w l a (f .service) (i .service) _ (says-service (a .kind));
         repeated =
             joins (found (firstRepeated none w)) (f .repeated) (not (eqb (a .kind) 33) && seenAt count (a .kind)) a (firstRepeated (also (a .kind) (seenAt count)) l) (i .repeated) _ (rw ne)

@@ -1,2 +1,3 @@
 pub mod Survey
 pub mod Turns
+pub mod Vendors

@@ -12,7 +12,7 @@ use Rattle.attr_walk.specs.declared.Search.{Search}
 use Rattle.attr_walk.specs.declared.Search.the-variants.{At, Missing}
 use Rattle.attr_walk.specs.Attributes.{attributes, tiled, any, found, firstOf, countOf, kindIs}
 use Rattle.attr_survey.specs.declared.Flags as D
-use Rattle.attr_types.specs.Types.{unsupportedIn, misfitting, among, namingTypes, changingTypes, firstRepeated, none}
+use Rattle.attr_types.specs.Types.{unsupportedType, unsupportedIn, misfitting, malformed, among, namingTypes, changingTypes, changing, firstRepeated, none}
 
 -- nothing noted yet
 unfoldable pub zeros : List ℕ
@@ -47,12 +47,22 @@ pub record Counted (l : List Attribute) (k : ℕ) (count ends sizes : List ℕ) 
 pub record Kept (s : List ℕ) (count ends sizes : List ℕ) : Type 0 where
   pub types : (k : ℕ) → k < 256 → (k ≡ 33 → ⊥) → Counted (attributes s) k count ends sizes
 
--- the flags of a pass over the area s of a request of this code
-pub record Flagged (s : List ℕ) (code : ℕ) (r : D.Flags) : Type 0 where
+-- the flags of a pass over the area s of a request of this code, by the types and lengths of its attributes alone
+pub record Typed (s : List ℕ) (code : ℕ) (r : D.Flags) : Type 0 where
   pub tiles : r .tiled ≡ tiled s
-  pub unsupported : r .unsupported ≡ any (unsupportedIn code) (attributes s)
+  pub unsupported : r .unsupported ≡ any (unsupportedType code) (attributes s)
   pub service : r .service ≡ any (kindIs 6) (attributes s)
   pub repeated : r .repeated ≡ found (firstRepeated none (attributes s))
   pub misfit : r .misfit ≡ any misfitting (attributes s)
   pub criterion : r .criterion ≡ any (among namingTypes) (attributes s)
   pub change : r .change ≡ any (among changingTypes) (attributes s)
+
+-- with what its Vendor-Specific attributes say
+pub record Flagged (s : List ℕ) (code : ℕ) (r : D.Flags) : Type 0 where
+  pub tiles : r .tiled ≡ tiled s
+  pub unsupported : r .unsupported ≡ any (unsupportedIn code s) (attributes s)
+  pub service : r .service ≡ any (kindIs 6) (attributes s)
+  pub repeated : r .repeated ≡ found (firstRepeated none (attributes s))
+  pub misfit : r .misfit ≡ any (malformed s) (attributes s)
+  pub criterion : r .criterion ≡ any (among namingTypes) (attributes s)
+  pub change : r .change ≡ any (changing s) (attributes s)

@@ -10,7 +10,7 @@ use attr_types::misfits;
 use attr_types::says;
 
 // a or b. It is a function of its own, since a branch inside a caller would double what is to be proved there.
-fn either(a: bool, b: bool) -> bool
+pub fn either(a: bool, b: bool) -> bool
     ensures { λ r. ⌜ r ≡ a || b ⌝ }
 {
     if a {

@@ -1,14 +1,14 @@
 -- The value of a Vendor-Specific attribute (type 26; document 02, request 01): "after the four vendor bytes comes a list of items, and an item may itself be a
 -- list." An item has the form of an attribute: type, length (2 to 255, counting both), value. Places count from the value's start, in every group.
 -- Assumes nothing.
-use mathlib.Core.Bool.{Bool, true, false, cond, _||_}
+use mathlib.Core.Bool.{Bool, true, false, cond, _&&_, _||_}
 use mathlib.Core.List.{List}
 use Prim.Native.Nat.{ℕ, zero, suc, _+_}
 use lib.Dec.{eqb, ltb}
 use lib.ListN.{length, take}
 use Rattle.octet_numbers.specs.Numbers.{be}
 use Rattle.attr_walk.specs.declared.Attribute.{Attribute}
-use Rattle.attr_walk.specs.Attributes.{walkFrom}
+use Rattle.attr_walk.specs.Attributes.{walkFrom, valueOf, kindIs}
 use Rattle.attr_vendor.specs.declared.Rate.{Rate}
 use Rattle.attr_vendor.specs.declared.Rate.the-variants.{Unset, Is}
 use Rattle.attr_vendor.specs.declared.Rates.{Rates}
@@ -87,3 +87,16 @@ abbrev pub setsRate : D.Vendor → Bool
 setsRate Other = false
 setsRate (Faulty p) = false
 setsRate (Sets h) = isSet (h .down) || isSet (h .up)
+
+-- the same of an attribute of the area s: only a type 26 is read
+abbrev pub vendorIn : List ℕ → Attribute → D.Vendor
+vendorIn s a = vendorOf (valueOf s a)
+
+abbrev pub otherVendor : List ℕ → Attribute → Bool
+otherVendor s a = kindIs 26 a && isOther (vendorIn s a)
+
+abbrev pub faultyVendor : List ℕ → Attribute → Bool
+faultyVendor s a = kindIs 26 a && isFaulty (vendorIn s a)
+
+abbrev pub setsRateIn : List ℕ → Attribute → Bool
+setsRateIn s a = kindIs 26 a && setsRate (vendorIn s a)

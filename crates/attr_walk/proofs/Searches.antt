@@ -48,7 +48,7 @@ none-case : (b c : Bool) (a : Attribute) (x : Search) (n : ℕ) → cond b (suc 
 none-case true c a x n h ih = absurd (omega arith)
 none-case false c a x n h ih = ih h
 
-none-both : (p q : Attribute → Bool) (l : List Attribute) → countOf p l ≡ 0 → any (λ a. p a && q a) l ≡ false
+pub none-both : (p q : Attribute → Bool) (l : List Attribute) → countOf p l ≡ 0 → any (λ a. p a && q a) l ≡ false
 none-both p q [] h = refl
 none-both p q (a ∷ l) h = none-case (p a) (q a) a (firstOf (λ b. p b && q b) l) (countOf p l) h (none-both p q l)
 

@@ -18,13 +18,15 @@ use Rattle.attr_walk.specs.declared.Search.the-variants.{At, Missing}
 use Rattle.attr_walk.specs.Attributes.{attributes, valueOf, firstOf, kindIs}
 use Rattle.table_criteria.specs.declared.Field.the-variants.{UserName, CallingStation, SessionId}
 use Rattle.table_slots.specs.Slot.{slotCount, slot, live, nasPort, framedAddress, sessionTimeout, idleTimeout, userName, sessionId, callingStation, filterId}
+use Rattle.table_slots.specs.Slot.{downRate, upRate}
 use Rattle.table_criteria.specs.Meets.{fieldBytes}
 use Rattle.table_slots.proofs.Count.{slot-fits}
 use Rattle.table_slots.proofs.Places.{length-slot}
 use Rattle.table_change.specs.declared.Alteration.{Alteration}
+use Rattle.table_change.specs.declared.Number.the-variants as N
 use Rattle.table_change.specs.Change.{altered, changed}
 use Rattle.table_change.proofs.Untouched.{part-low, field-kept, live-altered}
-use Rattle.table_change.proofs.Written.{timeout-set, timeout-kept, idle-set, idle-kept, filter-set, filter-kept}
+use Rattle.table_change.proofs.Written.{timeout-set, timeout-kept, idle-set, idle-kept, filter-set, filter-kept, down-set, down-kept, up-set, up-kept}
 use Rattle.das_effects.specs.Matching.{matchesIn}
 use Rattle.das_effects.specs.Changes.{numberAt, textAt, alterationOf, changeOf, changeMatching}
 use Rattle.das_effects.proofs.Marked.{matching-live}
@@ -85,7 +87,20 @@ module _ (area t : List ℕ) (k : ℕ) (h : k < slotCount t) (m : matchesIn area
 
   pub filter-same : firstOf (kindIs 11) (attributes area) ≡ Missing → filterId (slot k (changeMatching 43 area t)) ≡ filterId (slot k t)
   unfolding alterationOf
-  filter-same e = ap filterId slot-is ∙ filter-kept area (alterationOf area) (slot k t) (ap textAt e)
+  filter-same e = ap filterId slot-is ∙ filter-kept area (alterationOf area) (slot k t) (ap textAt e) was (rw long (omega arith))
+
+  -- the rates, however the request names them
+  pub down-after : (v : ℕ) → alterationOf area .down ≡ N.Set v → v < 2 ^ 32 → downRate (slot k (changeMatching 43 area t)) ≡ v
+  down-after v e f = ap downRate slot-is ∙ down-set area (alterationOf area) (slot k t) v e f (rw long (omega arith))
+
+  pub down-same : alterationOf area .down ≡ N.Unchanged → downRate (slot k (changeMatching 43 area t)) ≡ downRate (slot k t)
+  down-same e = ap downRate slot-is ∙ down-kept area (alterationOf area) (slot k t) e
+
+  pub up-after : (v : ℕ) → alterationOf area .up ≡ N.Set v → v < 2 ^ 32 → upRate (slot k (changeMatching 43 area t)) ≡ v
+  up-after v e f = ap upRate slot-is ∙ up-set area (alterationOf area) (slot k t) v e f (rw long (omega arith))
+
+  pub up-same : alterationOf area .up ≡ N.Unchanged → upRate (slot k (changeMatching 43 area t)) ≡ upRate (slot k t)
+  up-same e = ap upRate slot-is ∙ up-kept area (alterationOf area) (slot k t) e
 
   -- ---- the fields that no CoA writes
 

@@ -14,6 +14,7 @@ use Rattle.attr_walk.specs.declared.Search.the-variants.{At, Missing}
 use Rattle.attr_walk.specs.Attributes.{attributes, any, found, firstOf, kindIs}
 use Rattle.attr_walk.proofs.Stands.{first-placed}
 use Rattle.attr_survey.specs.Survey.{Kept, endOf, sizeOf, seenAt}
+use Rattle.attr_vendor.specs.declared.Rates.{Rates}
 use Rattle.attr_lookup.proofs.Values.{seen-any}
 use Rattle.octet_numbers.specs.Runs.{member}
 use Rattle.attr_types.specs.Types.{sixTypes, misfitting}
@@ -24,7 +25,7 @@ use Rattle.table_change.specs.declared.Number.the-variants as N
 use Rattle.table_change.specs.declared.Alteration.{Alteration}
 use Rattle.table_change.specs.declared.Text.{Text}
 use Rattle.table_change.specs.declared.Text.the-variants as T
-use Rattle.das_effects.specs.Changes.{numberAt, textAt, alterationOf, changeOf}
+use Rattle.das_effects.specs.Changes.{ratesNamed, rateNumber, numberAt, textAt, alterationOf, changeOf}
 use Rattle.attr_lookup.specs.Lookup.{keptPlace}
 use Rattle.das_effects.specs.Taken.{takenNumber, takenText}
 
@@ -70,11 +71,11 @@ module _ (area : List ℕ) (count ends sizes : List ℕ) (surveyed : Kept area c
   pub idle-inside : any misfitting (attributes area) ≡ false → seenAt count 28 ≡ true → keptPlace 28 ends sizes + 4 ≤ length area
   idle-inside misfit = number-inside 28 (lit< tt) (λ i. omega arith) misfit refl
 
-  pub altered-as : (x y : Number) (z : Text) → x ≡ takenNumber area 27 count ends sizes → y ≡ takenNumber area 28 count ends sizes → z ≡ takenText 11 count ends sizes
-      → record { timeout = x; idle = y; filter = z } ≡ alterationOf area
+  pub altered-as : (x y d u : Number) (z : Text) (r : Rates) → x ≡ takenNumber area 27 count ends sizes → y ≡ takenNumber area 28 count ends sizes → z ≡ takenText 11 count ends sizes
+      → r ≡ ratesNamed area → d ≡ rateNumber (r .down) → u ≡ rateNumber (r .up) → record { timeout = x; idle = y; filter = z; down = d; up = u } ≡ alterationOf area
   unfolding alterationOf
-  altered-as x y z e g h =
-      rw (e ∙ number-kept 27 (lit< tt) (λ i. omega arith), g ∙ number-kept 28 (lit< tt) (λ i. omega arith), h ∙ text-kept 11 (lit< tt) (λ i. omega arith))
+  altered-as x y d u z r e g h i j k =
+      rw (e ∙ number-kept 27 (lit< tt) (λ i. omega arith), g ∙ number-kept 28 (lit< tt) (λ i. omega arith), h ∙ text-kept 11 (lit< tt) (λ i. omega arith), j, k, i)
 
 pub ends-all : (code : ℕ) (area : List ℕ) → code ≡ 40 → End ≡ changeOf code area
 unfolding changeOf

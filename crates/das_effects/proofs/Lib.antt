@@ -5,3 +5,4 @@ pub mod Asked
 pub mod Marked
 pub mod Outcomes
 pub mod Altered
+pub mod Rated

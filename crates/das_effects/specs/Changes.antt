@@ -9,6 +9,12 @@ use Rattle.octet_numbers.specs.Numbers.{be}
 use Rattle.attr_walk.specs.declared.Search.{Search}
 use Rattle.attr_walk.specs.declared.Search.the-variants.{At, Missing}
 use Rattle.attr_walk.specs.Attributes.{attributes, firstOf, kindIs}
+use Rattle.attr_vendor.specs.declared.Rate.{Rate}
+use Rattle.attr_vendor.specs.declared.Rate.the-variants.{Unset, Is}
+use Rattle.attr_vendor.specs.declared.Rates.{Rates}
+use Rattle.attr_vendor.specs.declared.Vendor.{Vendor}
+use Rattle.attr_vendor.specs.declared.Vendor.the-variants.{Other, Faulty, Sets}
+use Rattle.attr_vendor.specs.Vendor.{unset, vendorIn}
 use Rattle.table_slots.specs.Slot.{slotCount}
 use Rattle.table_change.specs.declared.Change.{Change}
 use Rattle.table_change.specs.declared.Change.the-variants.{End, Alter}
@@ -29,13 +35,32 @@ abbrev pub textAt : Search → Text
 textAt (At a) = T.Set (a .at + 2) (a .size - 2)
 textAt Missing = T.Unchanged
 
--- what a CoA names: Session-Timeout (27), Idle-Timeout (28), Filter-Id (11)
+-- the rates that a type 26 sets; one that is another vendor's or not well-formed sets none, and does not come here (401, 404)
+abbrev pub ratesBy : Vendor → Rates
+ratesBy Other = unset
+ratesBy (Faulty p) = unset
+ratesBy (Sets h) = h
+
+abbrev pub ratesAt : List ℕ → Search → Rates
+ratesAt area (At a) = ratesBy (vendorIn area a)
+ratesAt area Missing = unset
+
+unfoldable pub ratesNamed : List ℕ → Rates
+ratesNamed area = ratesAt area (firstOf (kindIs 26) (attributes area))
+
+abbrev pub rateNumber : Rate → Number
+rateNumber Unset = N.Unchanged
+rateNumber (Is v) = N.Set v
+
+-- what a CoA names: Session-Timeout (27), Idle-Timeout (28), Filter-Id (11), and the two rates of Vendor-Specific (26)
 unfoldable pub alterationOf : List ℕ → Alteration
 alterationOf area =
     record {
       timeout = numberAt area (firstOf (kindIs 27) (attributes area));
       idle = numberAt area (firstOf (kindIs 28) (attributes area));
       filter = textAt (firstOf (kindIs 11) (attributes area));
+      down = rateNumber (ratesNamed area .down);
+      up = rateNumber (ratesNamed area .up);
     }
 
 -- a Disconnect (code 40) ends the sessions, a CoA alters them

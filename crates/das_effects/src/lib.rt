@@ -1,4 +1,5 @@
 // What a request does to the sessions: the criteria by which it names them, and the change.
+mod rates; // rates.rt: the rates of a type 26
 mod taken; // taken.rt: a criterion, a number or a text, from what the pass kept of its type
 
 ghost use mathlib.Core.Path.{_≡_};
@@ -67,10 +68,17 @@ fn alteration(
     let timeout = taken::number(s, SESSION_TIMEOUT, count, ends, sizes);
     let idle = taken::number(s, IDLE_TIMEOUT, count, ends, sizes);
     let filter = taken::text(FILTER_ID, count, ends, sizes);
+    let named = rates::named(s, count, ends, sizes);
+    let rate = named.down;
+    let down = rates::number(rate);
+    let rate = named.up;
+    let up = rates::number(rate);
     table_change::Alteration {
         timeout,
         idle,
         filter,
+        down,
+        up,
     }
 }
 

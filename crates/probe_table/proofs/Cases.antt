@@ -75,13 +75,15 @@ module _ (flag : ℕ) where
     unfolding textOf
     text-set h = rw (ne-eqb _ _ h)
 
-  -- the end, or three settings
-  module _ (timed timeout idled idle filtered at size : ℕ) where
-    pub change-end : (flag ≡ 0 → ⊥) → End ≡ changeOf flag timed timeout idled idle filtered at size
+  -- the end, or five settings
+  module _ (timed timeout idled idle filtered at size downed down upped up : ℕ) where
+    pub change-end : (flag ≡ 0 → ⊥) → End ≡ changeOf flag timed timeout idled idle filtered at size downed down upped up
     unfolding changeOf
     change-end h = rw (ne-eqb _ _ h)
 
-    pub change-alter : (a b : Number) (c : Text) → flag ≡ 0 → a ≡ numberOf timed timeout → b ≡ numberOf idled idle → c ≡ textOf filtered at size
-        → Alter (record { timeout = a; idle = b; filter = c }) ≡ changeOf flag timed timeout idled idle filtered at size
+    pub change-alter : (a b : Number) (c : Text) (d e : Number) → flag ≡ 0
+        → a ≡ numberOf timed timeout → b ≡ numberOf idled idle → c ≡ textOf filtered at size → d ≡ numberOf downed down → e ≡ numberOf upped up
+        → Alter (record { timeout = a; idle = b; filter = c; down = d; up = e })
+        ≡ changeOf flag timed timeout idled idle filtered at size downed down upped up
     unfolding changeOf
-    change-alter a b c e g h i = rw (eq-eqb _ _ e, g, h, i)
+    change-alter a b c d e z g h i j k = rw (eq-eqb _ _ z, g, h, i, j, k)

@@ -38,9 +38,16 @@ numberOf set v = cond (eqb set 0) N.Unchanged (N.Set v)
 unfoldable pub textOf : ℕ → ℕ → ℕ → Text
 textOf set at size = cond (eqb set 0) T.Unchanged (T.Set at size)
 
--- the end of a session, where its flag is not 0, else the three settings
-unfoldable pub changeOf : ℕ → ℕ → ℕ → ℕ → ℕ → ℕ → ℕ → ℕ → Change
-changeOf end timed timeout idled idle filtered at size =
+-- the end of a session, where its flag is not 0, else the five settings
+unfoldable pub changeOf : ℕ → ℕ → ℕ → ℕ → ℕ → ℕ → ℕ → ℕ → ℕ → ℕ → ℕ → ℕ → Change
+changeOf end timed timeout idled idle filtered at size downed down upped up =
     cond (eqb end 0)
-    (Alter (record { timeout = numberOf timed timeout; idle = numberOf idled idle; filter = textOf filtered at size }))
+    (Alter
+    (record {
+      timeout = numberOf timed timeout;
+      idle = numberOf idled idle;
+      filter = textOf filtered at size;
+      down = numberOf downed down;
+      up = numberOf upped up;
+    }))
     End

@@ -79,8 +79,12 @@ pub fn change_of(
     filtered: u32,
     at: usize,
     size: usize,
+    downed: u32,
+    down: u32,
+    upped: u32,
+    up: u32,
 ) -> table_change::Change
-    ensures { λ r. ⌜ r ≡ changeOf end timed timeout idled idle filtered at size ⌝ }
+    ensures { λ r. ⌜ r ≡ changeOf end timed timeout idled idle filtered at size downed down upped up ⌝ }
 {
     if end != 0 {
         return table_change::Change::End;
@@ -89,6 +93,8 @@ pub fn change_of(
         timeout: number_of(timed, timeout),
         idle: number_of(idled, idle),
         filter: text_of(filtered, at, size),
+        down: number_of(downed, down),
+        up: number_of(upped, up),
     };
     table_change::Change::Alter(a)
 }

@@ -35,16 +35,33 @@ pub extern "C" fn probe_table_change(
     filtered: u32,
     at: usize,
     size: usize,
+    downed: u32,
+    down: u32,
+    upped: u32,
+    up: u32,
     count: &mut u32,
 ) -> u32
     ensures { λ r. ⌜ r ≡ answer (marksRoom (now (marks .entry))) ⌝ }
-    ensures { λ _. ⌜ now (t .exit) ≡ cond (marksRoom (now (marks .entry))) (changeMarked (now (area .entry)) (changeOf end timed timeout idled idle filtered at size) (now (marks .entry)) (slotCount (now (t .entry))) (now (t .entry))) (now (t .entry)) ⌝ }
+    ensures { λ _. ⌜ now (t .exit) ≡ cond (marksRoom (now (marks .entry))) (changeMarked (now (area .entry)) (changeOf end timed timeout idled idle filtered at size downed down upped up) (now (marks .entry)) (slotCount (now (t .entry))) (now (t .entry))) (now (t .entry)) ⌝ }
     ensures { λ _. ⌜ now (count .exit) ≡ cond (marksRoom (now (marks .entry))) (countMarked (now (marks .entry)) (slotCount (now (t .entry))) (now (t .entry))) (now (count .entry)) ⌝ }
 {
     if marks.len() != 64 {
         return 1;
     }
-    let c = change_of(end, timed, timeout, idled, idle, filtered, at, size);
+    let c = change_of(
+        end,
+        timed,
+        timeout,
+        idled,
+        idle,
+        filtered,
+        at,
+        size,
+        downed,
+        down,
+        upped,
+        up,
+    );
     *count = change_all(t, area, marks, c);
     0
 }

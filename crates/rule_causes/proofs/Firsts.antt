@@ -55,7 +55,7 @@ both z a b c d e f = (λ q. subst (λ (y : D.Cause). standsFor y a b c d e f) q 
 
 pub exactly : (z : D.Cause) (code «nas_ip» : ℕ) («nas_id» s : List ℕ)
     → (causeOf code «nas_ip» «nas_id» s ≡ z)
-    ↔ standsFor z (any (unsupportedIn code) (attributes s)) (any (kindIs 6) (attributes s)) (invalid s) (any (mismatched «nas_ip» «nas_id» s) (attributes s)) (missing code s) (any oversized (attributes s))
+    ↔ standsFor z (any (unsupportedIn code s) (attributes s)) (any (kindIs 6) (attributes s)) (invalid s) (any (mismatched «nas_ip» «nas_id» s) (attributes s)) (missing code s) (any oversized (attributes s))
 unfolding causeOf
 exactly z code «nas_ip» «nas_id» s =
-    both z (any (unsupportedIn code) (attributes s)) (any (kindIs 6) (attributes s)) (invalid s) (any (mismatched «nas_ip» «nas_id» s) (attributes s)) (missing code s) (any oversized (attributes s))
+    both z (any (unsupportedIn code s) (attributes s)) (any (kindIs 6) (attributes s)) (invalid s) (any (mismatched «nas_ip» «nas_id» s) (attributes s)) (missing code s) (any oversized (attributes s))

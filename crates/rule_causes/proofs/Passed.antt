@@ -1,6 +1,6 @@
 -- Where no cause applies: what a handler may count on. Each fact is one test of the definition that failed, read at an attribute of the area.
 -- Assumes nothing.
-use mathlib.Core.Path.{_≡_, refl, ap, _∙_}
+use mathlib.Core.Path.{_≡_, refl, sym, ap, _∙_}
 use mathlib.Core.Bool.{Bool, true, false, cond, _&&_, true≢false, false≢true}
 use mathlib.Core.List.{List, [], _∷_, List·Memᴰ, List·Memᴰ·not-nil, List·Memᴰ·cases-cons}
 use mathlib.Core.Logic.{_⊎_, inl, inr}
@@ -13,9 +13,10 @@ use Rattle.attr_walk.specs.declared.Search.{Search}
 use Rattle.attr_walk.specs.declared.Search.the-variants.{At}
 use Rattle.attr_walk.specs.Attributes.{attributes, any, found, firstOf, countOf, kindIs}
 use Rattle.attr_walk.proofs.Stands.{first-member}
-use Rattle.attr_walk.proofs.Searches.{first-passes}
+use Rattle.attr_walk.proofs.Searches.{first-passes, any-or}
+use Rattle.attr_vendor.specs.Vendor.{faultyVendor}
 use Rattle.octet_numbers.specs.Runs.{member}
-use Rattle.attr_types.specs.Types.{sixTypes, filledTypes, misfitOf, misfitting, firstRepeated, none}
+use Rattle.attr_types.specs.Types.{sixTypes, filledTypes, misfitOf, misfitting, firstRepeated, none, malformed}
 use Rattle.attr_types.proofs.Repeats.{at-most-once}
 use Rattle.rule_causes.specs.declared.Cause.the-variants as C
 use Rattle.rule_causes.specs.Causes.{oversized, invalid, causeOf}
@@ -61,11 +62,13 @@ first-six s k a misfit e h =
 module _ (code «nas_ip» : ℕ) («nas_id» s : List ℕ) (q : causeOf code «nas_ip» «nas_id» s ≡ C.NoCause) where
   pub repeated : found (firstRepeated none (attributes s)) ≡ false
   unfolding invalid
-  repeated = neither _ (any misfitting (attributes s)) (exactly C.NoCause code «nas_ip» «nas_id» s .0 q .2) .0
+  repeated = neither _ (any (malformed s) (attributes s)) (exactly C.NoCause code «nas_ip» «nas_id» s .0 q .2) .0
 
   pub misfit : any misfitting (attributes s) ≡ false
   unfolding invalid
-  misfit = neither (found (firstRepeated none (attributes s))) _ (exactly C.NoCause code «nas_ip» «nas_id» s .0 q .2) .1
+  misfit =
+      let none-malformed = neither (found (firstRepeated none (attributes s))) _ (exactly C.NoCause code «nas_ip» «nas_id» s .0 q .2) .1 in
+      neither (any misfitting (attributes s)) _ (sym (any-or misfitting (faultyVendor s) (attributes s)) ∙ none-malformed) .0
 
   -- every type but 33 stands at most once
   pub once : (k : ℕ) → (k ≡ 33 → ⊥) → countOf (kindIs k) (attributes s) ≤ 1

@@ -8,7 +8,7 @@ use Rattle.octet_numbers.specs.Numbers.{beBytes}
 use Rattle.octet_numbers.specs.Runs.{equalBytes}
 use Rattle.attr_walk.specs.declared.Attribute.{Attribute}
 use Rattle.attr_walk.specs.Attributes.{attributes, valueOf, any, found, kindIs}
-use Rattle.attr_types.specs.Types.{unsupportedIn, misfitting, among, namingTypes, changingTypes, firstRepeated, none}
+use Rattle.attr_types.specs.Types.{unsupportedIn, malformed, changing, among, namingTypes, firstRepeated, none}
 use Rattle.rule_causes.specs.declared.Cause as D
 use Rattle.rule_causes.specs.declared.Cause.the-variants as C
 
@@ -43,20 +43,20 @@ mismatched «nas_ip» «nas_id» s a = differing s 4 (beBytes 4 «nas_ip») a ||
 
 -- 402: none that names a session, or a CoA with none that changes one
 unfoldable pub missing : ℕ → List ℕ → Bool
-missing code s = not (any (among namingTypes) (attributes s)) || (eqb code 43 && not (any (among changingTypes) (attributes s)))
+missing code s = not (any (among namingTypes) (attributes s)) || (eqb code 43 && not (any (changing s) (attributes s)))
 
 -- 506: a Filter-Id whose value has more than 32 bytes
 abbrev pub oversized : Attribute → Bool
 oversized a = kindIs 11 a && ltb 34 (a .size)
 
--- 404: a type but 33 twice, or a length that its type may not have
+-- 404: a type but 33 twice, a length that its type may not have, or a type 26 that is not well-formed
 unfoldable pub invalid : List ℕ → Bool
-invalid s = found (firstRepeated none (attributes s)) || any misfitting (attributes s)
+invalid s = found (firstRepeated none (attributes s)) || any (malformed s) (attributes s)
 
 -- the first cause that applies to the area s of a request of this code, at a gate of this address and name
 unfoldable pub causeOf : ℕ → ℕ → List ℕ → List ℕ → D.Cause
 causeOf code «nas_ip» «nas_id» s =
-    cond (any (unsupportedIn code) (attributes s)) C.UnsupportedAttribute
+    cond (any (unsupportedIn code s) (attributes s)) C.UnsupportedAttribute
     (cond (any (kindIs 6) (attributes s)) C.UnsupportedService
     (cond (invalid s) C.InvalidRequest
     (cond (any (mismatched «nas_ip» «nas_id» s) (attributes s)) C.IdentificationMismatch

@@ -31,12 +31,32 @@ unfolding setText
 length-setText area T.Unchanged i s = refl
 length-setText area (T.Set at size) i s = length-write s i (textField 32 (part at size area))
 
-pub length-altered : (area : List ℕ) (a : Alteration) (s : List ℕ) → length (altered area a s) ≡ length s
-unfolding altered
-length-altered area a s =
-    length-setText area (a .filter) 148 (setNumber (a .idle) 14 (setNumber (a .timeout) 10 s))
-    ∙ length-setNumber (a .idle) 14 (setNumber (a .timeout) 10 s)
-    ∙ length-setNumber (a .timeout) 10 s
+-- the fields, written one after the other
+module _ (area : List ℕ) (a : Alteration) (s : List ℕ) where
+  abbrev pub timed : List ℕ
+  timed = setNumber (a .timeout) 10 s
+
+  abbrev pub idled : List ℕ
+  idled = setNumber (a .idle) 14 timed
+
+  abbrev pub filtered : List ℕ
+  filtered = setText area (a .filter) 148 idled
+
+  abbrev pub slowed : List ℕ
+  slowed = setNumber (a .down) 181 filtered
+
+  pub length-idled : length idled ≡ length s
+  length-idled = length-setNumber (a .idle) 14 timed ∙ length-setNumber (a .timeout) 10 s
+
+  pub length-filtered : length filtered ≡ length s
+  length-filtered = length-setText area (a .filter) 148 idled ∙ length-idled
+
+  pub length-slowed : length slowed ≡ length s
+  length-slowed = length-setNumber (a .down) 181 filtered ∙ length-filtered
+
+  pub length-altered : length (altered area a s) ≡ length s
+  unfolding altered
+  length-altered = length-setNumber (a .up) 185 slowed ∙ length-slowed
 
 -- ---- s lies at place m of t
 module _ (t s : List ℕ) (m i : ℕ) where
@@ -50,20 +70,29 @@ module _ (t s : List ℕ) (m i : ℕ) where
   text-in area T.Unchanged h = refl
   text-in area (T.Set at size) h = write-in t s m i (textField 32 (part at size area)) (rw length-textField h)
 
--- the three fields written in the table, one after the other
-pub altered-in : (area t t₁ t₂ t₃ : List ℕ) (a : Alteration) (k : ℕ) → (k + 1) * 192 ≤ length t
+-- the five fields written in the table, one after the other
+pub altered-in : (area t t₁ t₂ t₃ t₄ t₅ : List ℕ) (a : Alteration) (k : ℕ) → (k + 1) * 192 ≤ length t
     → t₁ ≡ setNumber (a .timeout) (k * 192 + 10) t
     → t₂ ≡ setNumber (a .idle) (k * 192 + 14) t₁
     → t₃ ≡ setText area (a .filter) (k * 192 + 148) t₂
-    → t₃ ≡ write t (k * 192) (altered area a (slot k t))
+    → t₄ ≡ setNumber (a .down) (k * 192 + 181) t₃
+    → t₅ ≡ setNumber (a .up) (k * 192 + 185) t₄
+    → t₅ ≡ write t (k * 192) (altered area a (slot k t))
 unfolding altered
-altered-in area t t₁ t₂ t₃ a k h e₁ e₂ e₃ =
+altered-in area t t₁ t₂ t₃ t₄ t₅ a k h e₁ e₂ e₃ e₄ e₅ =
     let s : List ℕ = slot k t in
-    let s₁ : List ℕ = setNumber (a .timeout) 10 s in
-    let s₂ : List ℕ = setNumber (a .idle) 14 s₁ in
+    let at : ℕ = k * 192 in
+    let s₁ : List ℕ = timed area a s in
+    let s₂ : List ℕ = idled area a s in
+    let s₃ : List ℕ = filtered area a s in
+    let s₄ : List ℕ = slowed area a s in
     let l : length s ≡ 192 = length-slot t k h in
     let l₁ : length s₁ ≡ 192 = length-setNumber (a .timeout) 10 s ∙ l in
-    let l₂ : length s₂ ≡ 192 = length-setNumber (a .idle) 14 s₁ ∙ l₁ in
-    let w₁ : t₁ ≡ write t (k * 192) s₁ = e₁ ∙ ap (setNumber (a .timeout) (k * 192 + 10)) (slot-same t k h) ∙ number-in t s (k * 192) 10 (a .timeout) (omega arith) in
-    let w₂ : t₂ ≡ write t (k * 192) s₂ = e₂ ∙ ap (setNumber (a .idle) (k * 192 + 14)) w₁ ∙ number-in t s₁ (k * 192) 14 (a .idle) (omega arith) in
-    e₃ ∙ ap (setText area (a .filter) (k * 192 + 148)) w₂ ∙ text-in t s₂ (k * 192) 148 area (a .filter) (omega arith)
+    let l₂ : length s₂ ≡ 192 = length-idled area a s ∙ l in
+    let l₃ : length s₃ ≡ 192 = length-filtered area a s ∙ l in
+    let l₄ : length s₄ ≡ 192 = length-slowed area a s ∙ l in
+    let w₁ : t₁ ≡ write t at s₁ = e₁ ∙ ap (setNumber (a .timeout) (at + 10)) (slot-same t k h) ∙ number-in t s at 10 (a .timeout) (omega arith) in
+    let w₂ : t₂ ≡ write t at s₂ = e₂ ∙ ap (setNumber (a .idle) (at + 14)) w₁ ∙ number-in t s₁ at 14 (a .idle) (omega arith) in
+    let w₃ : t₃ ≡ write t at s₃ = e₃ ∙ ap (setText area (a .filter) (at + 148)) w₂ ∙ text-in t s₂ at 148 area (a .filter) (omega arith) in
+    let w₄ : t₄ ≡ write t at s₄ = e₄ ∙ ap (setNumber (a .down) (at + 181)) w₃ ∙ number-in t s₃ at 181 (a .down) (omega arith) in
+    e₅ ∙ ap (setNumber (a .up) (at + 185)) w₄ ∙ number-in t s₄ at 185 (a .up) (omega arith)

@@ -1,4 +1,4 @@
--- What an alteration keeps: bytes 0 to 9, 18 to 147 and 181 to 191 are beside all that it writes.
+-- What an alteration keeps: bytes 0 to 9, 18 to 147 and 189 to 191 are beside all that it writes.
 -- So a live slot stays live, with every field that a criterion can name.
 -- Assumes nothing.
 use mathlib.Core.Path.{_≡_, refl, sym, ap, _∙_}
@@ -29,10 +29,10 @@ use Rattle.table_change.specs.declared.Number.the-variants as N
 use Rattle.table_change.specs.declared.Text.{Text}
 use Rattle.table_change.specs.declared.Text.the-variants as T
 use Rattle.table_change.specs.Change.{setNumber, setText, altered}
-use Rattle.table_change.proofs.Alter.{length-setNumber}
+use Rattle.table_change.proofs.Alter.{timed, idled, filtered, slowed, length-idled}
 
 -- a byte is a part of one
-same-byte : (l m : List ℕ) (j : ℕ) → part j 1 l ≡ part j 1 m → getD l j 0 ≡ getD m j 0
+pub same-byte : (l m : List ℕ) (j : ℕ) → part j 1 l ≡ part j 1 m → getD l j 0 ≡ getD m j 0
 same-byte l m j e = first l ∙ ap (λ (u : List ℕ). getD u 0 0) e ∙ sym (first m)
   where
     first : (u : List ℕ) → getD u j 0 ≡ getD (part j 1 u) 0 0
@@ -54,17 +54,25 @@ module _ (m n i : ℕ) (s : List ℕ) where
       let v : List ℕ = textField 32 (part at size area) in
       ⊎-elim (λ h. part-before s i v m n h) (λ h. part-after s i v m n (rw length-textField h)) o
 
--- ---- a part beside all three
+-- ---- a part beside all five
 
 module _ (area : List ℕ) (a : Alteration) (s : List ℕ) where
-  beside : (m n : ℕ) → ((m + n ≤ 10) ⊎ (18 ≤ m)) → ((m + n ≤ 148) ⊎ (181 ≤ m)) → part m n (altered area a s) ≡ part m n s
+  pub beside-rates : (m n : ℕ) → ((m + n ≤ 181) ⊎ (189 ≤ m)) → part m n (altered area a s) ≡ part m n (filtered area a s)
   unfolding altered
-  beside m n o o′ =
-      let s₁ : List ℕ = setNumber (a .timeout) 10 s in
-      let s₂ : List ℕ = setNumber (a .idle) 14 s₁ in
-      part-text m n 148 s₂ area (a .filter) o′
-      ∙ part-number m n 14 s₁ (a .idle) (⊎-elim (λ h. inl (omega arith)) (λ h. inr (omega arith)) o)
+  beside-rates m n o =
+      part-number m n 185 (slowed area a s) (a .up) (⊎-elim (λ h. inl (omega arith)) (λ h. inr h) o)
+      ∙ part-number m n 181 (filtered area a s) (a .down) (⊎-elim (λ h. inl h) (λ h. inr (omega arith)) o)
+
+  beside-timeouts : (m n : ℕ) → ((m + n ≤ 10) ⊎ (18 ≤ m)) → part m n (idled area a s) ≡ part m n s
+  beside-timeouts m n o =
+      part-number m n 14 (timed area a s) (a .idle) (⊎-elim (λ h. inl (omega arith)) (λ h. inr h) o)
       ∙ part-number m n 10 s (a .timeout) (⊎-elim (λ h. inl h) (λ h. inr (omega arith)) o)
+
+  beside : (m n : ℕ) → ((m + n ≤ 10) ⊎ (18 ≤ m)) → ((m + n ≤ 148) ⊎ (189 ≤ m)) → part m n (altered area a s) ≡ part m n s
+  beside m n o o′ =
+      beside-rates m n (⊎-elim (λ h. inl (omega arith)) (λ h. inr h) o′)
+      ∙ part-text m n 148 (idled area a s) area (a .filter) (⊎-elim (λ h. inl h) (λ h. inr (omega arith)) o′)
+      ∙ beside-timeouts m n o
 
   pub part-low : (m n : ℕ) → m + n ≤ 10 → part m n (altered area a s) ≡ part m n s
   part-low m n h = beside m n (inl h) (inl (omega arith))
@@ -72,14 +80,14 @@ module _ (area : List ℕ) (a : Alteration) (s : List ℕ) where
   pub part-middle : (m n : ℕ) → 18 ≤ m → m + n ≤ 148 → part m n (altered area a s) ≡ part m n s
   part-middle m n h g = beside m n (inr h) (inl g)
 
-  pub part-high : (m n : ℕ) → 181 ≤ m → part m n (altered area a s) ≡ part m n s
+  pub part-high : (m n : ℕ) → 189 ≤ m → part m n (altered area a s) ≡ part m n s
   part-high m n h = beside m n (inr (omega arith)) (inr h)
 
   byte-by : (j : ℕ) → part j 1 (altered area a s) ≡ part j 1 s → getD (altered area a s) j 0 ≡ getD s j 0
   byte-by j e = same-byte (altered area a s) s j e
 
-  -- bytes 181 to 191
-  pub rest-kept : (j : ℕ) → 181 ≤ j → getD (altered area a s) j 0 ≡ getD s j 0
+  -- bytes 189 to 191
+  pub rest-kept : (j : ℕ) → 189 ≤ j → getD (altered area a s) j 0 ≡ getD s j 0
   rest-kept j h = byte-by j (part-high j 1 h)
 
   middle-byte : (j : ℕ) → 18 ≤ j → j < 148 → getD (altered area a s) j 0 ≡ getD s j 0
@@ -108,15 +116,16 @@ module _ (area : List ℕ) (a : Alteration) (s : List ℕ) where
         let m : length (take 32 v) ≤ 32 = rw length-take (omega arith) in
         rw (head-there (write u 148 (textField 32 v)) 148 32 v (field-written u 148 32 v (omega arith))) (within-is 0 32 (length (take 32 v)) (omega arith) m)
 
+    pub filter-fits : 181 ≤ length s → within 0 32 (getD (filtered area a s) 148 0) ≡ true
+    filter-fits g =
+        let b : getD (idled area a s) 148 0 ≡ getD s 148 0 = same-byte (idled area a s) s 148 (beside-timeouts 148 1 (inr (omega arith))) in
+        filter-by (a .filter) (idled area a s) (rw b (live-filter s l)) (rw length-idled g)
+
     pub live-altered : 181 ≤ length s → live (altered area a s) ≡ true
-    unfolding altered
     live-altered g =
-        let s₁ : List ℕ = setNumber (a .timeout) 10 s in
-        let s₂ : List ℕ = setNumber (a .idle) 14 s₁ in
-        let long : length s₂ ≡ length s = length-setNumber (a .idle) 14 s₁ ∙ length-setNumber (a .timeout) 10 s in
-        let b : getD s₂ 148 0 ≡ getD s 148 0 = same-byte s₂ s 148 (part-number 148 1 14 s₁ (a .idle) (inr (omega arith)) ∙ part-number 148 1 10 s (a .timeout) (inr (omega arith))) in
+        let b : getD (altered area a s) 148 0 ≡ getD (filtered area a s) 148 0 = same-byte _ _ 148 (beside-rates 148 1 (inl (omega arith))) in
         live-by s (altered area a s) (byte-by 0 (part-low 0 1 (omega arith))) (byte-by 1 (part-low 1 1 (omega arith))) (middle-byte 18 (omega arith) (omega arith)) (middle-byte 82 (omega arith) (omega arith)) (middle-byte 115 (omega arith) (omega arith))
-        (filter-by (a .filter) s₂ (rw b (live-filter s l)) (rw long g) ∙ sym (live-filter s l))
+        (rw b (filter-fits g) ∙ sym (live-filter s l))
         ∙ l
 
     -- ---- so every request names the slot as before

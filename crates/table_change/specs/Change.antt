@@ -28,9 +28,10 @@ unfoldable pub setText : List ℕ → Text → ℕ → List ℕ → List ℕ
 setText area T.Unchanged i s = s
 setText area (T.Set at size) i s = write s i (textField 32 (part at size area))
 
--- a slot with the fields that a CoA names: Session-Timeout, Idle-Timeout, Filter-Id
+-- a slot with the fields that a CoA names: Session-Timeout, Idle-Timeout, Filter-Id, down rate, up rate
 unfoldable pub altered : List ℕ → Alteration → List ℕ → List ℕ
-altered area a s = setText area (a .filter) 148 (setNumber (a .idle) 14 (setNumber (a .timeout) 10 s))
+altered area a s =
+    setNumber (a .up) 185 (setNumber (a .down) 181 (setText area (a .filter) 148 (setNumber (a .idle) 14 (setNumber (a .timeout) 10 s))))
 
 -- a slot ended or altered
 unfoldable pub changed : List ℕ → Change → List ℕ → List ℕ

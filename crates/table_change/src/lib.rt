@@ -25,6 +25,8 @@ pub struct Alteration {
     pub timeout: Number,
     pub idle: Number,
     pub filter: Text,
+    pub down: Number,
+    pub up: Number,
 }
 
 // What happens to the sessions that a request names.
@@ -41,10 +43,14 @@ fn alter_slot(t: &mut [u8], k: usize, area: &[u8], a: Alteration)
     let timeout = a.timeout;
     let idle = a.idle;
     let filter = a.filter;
+    let down = a.down;
+    let up = a.up;
     let at = k * 192;
     fields::set_number(&mut *t, at + 10, timeout);
     fields::set_number(&mut *t, at + 14, idle);
-    fields::set_text(t, at + 148, area, filter);
+    fields::set_text(&mut *t, at + 148, area, filter);
+    fields::set_number(&mut *t, at + 181, down);
+    fields::set_number(t, at + 185, up);
 }
 
 // Ends slot k: all its bytes are zero.

@@ -64,19 +64,22 @@ module _ (t t₁ t₂ t₃ t₄ t₅ : List ℕ) (at : ℕ) where
       let w₄ = then t t₃ t₄ at 130 33 _ _ w₃ e₄ (length-textField 32 filter) in
       then t t₄ t₅ at 163 11 _ _ w₄ e₅ (length-replicate {A = ℕ} 11 0) .is
 
-regroup : (m a b c d u i s f z : List ℕ) → (m ++ a ++ b ++ c ++ d) ++ (u ++ i ++ s ++ f ++ z) ≡ m ++ a ++ b ++ c ++ d ++ u ++ i ++ s ++ f ++ z
-regroup m a b c d u i s f z = simp append-assoc
+-- the last piece is written in one: both rates and the three bytes after them are zero
+regroup : (m a b c d u i s f v w z : List ℕ)
+    → (m ++ a ++ b ++ c ++ d) ++ (u ++ i ++ s ++ f ++ (v ++ w ++ z)) ≡ m ++ a ++ b ++ c ++ d ++ u ++ i ++ s ++ f ++ v ++ w ++ z
+regroup m a b c d u i s f v w z = simp append-assoc
 
 -- numbers and texts together
 pub record-written : (t t₁ t₂ : List ℕ) (at : ℕ) (x : Session)
     → t₁ ≡ write t at ((0x5A ∷ 0x4C ∷ []) ++ beBytes 4 (x .port) ++ beBytes 4 (x .address) ++ beBytes 4 (x .timeout) ++ beBytes 4 (x .idle))
     → t₂ ≡ write t₁ (at + 18) (textField 63 (x .user) ++ textField 32 (x .id) ++ textField 32 (x .station) ++ textField 32 (x .filter) ++ replicate 11 0)
     → t₂ ≡ write t at (recordOf x)
-unfolding recordOf
+unfolding recordOf beBytes
 record-written t t₁ t₂ at x e₁ e₂ =
     let mark : List ℕ = 0x5A ∷ 0x4C ∷ [] in
     let numbers : List ℕ = mark ++ beBytes 4 (x .port) ++ beBytes 4 (x .address) ++ beBytes 4 (x .timeout) ++ beBytes 4 (x .idle) in
-    let l : length numbers ≡ 18 = simp (length-append, length-beBytes) in
+    let l : length numbers ≡ 18 = simp length-append in
     write-then t₁ t₂ t at (at + 18) numbers _ e₁ e₂ (rw l)
     ∙ ap (write t at)
-    (regroup mark (beBytes 4 (x .port)) (beBytes 4 (x .address)) (beBytes 4 (x .timeout)) (beBytes 4 (x .idle)) (textField 63 (x .user)) (textField 32 (x .id)) (textField 32 (x .station)) (textField 32 (x .filter)) (replicate 11 0))
+    (regroup mark (beBytes 4 (x .port)) (beBytes 4 (x .address)) (beBytes 4 (x .timeout)) (beBytes 4 (x .idle))
+    (textField 63 (x .user)) (textField 32 (x .id)) (textField 32 (x .station)) (textField 32 (x .filter)) (beBytes 4 0) (beBytes 4 0) (replicate 3 0))

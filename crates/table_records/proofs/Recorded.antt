@@ -1,4 +1,4 @@
--- A recorded session is live, and each of its eight fields is read back: each piece of the record lies where the field is read.
+-- A recorded session is live, and each of its eight fields is read back, with zero rates: each piece of the record lies where the field is read.
 -- Assumes nothing.
 use mathlib.Core.Path.{_≡_, refl, sym, ap, _∙_}
 use mathlib.Core.Bool.{true, _&&_}
@@ -6,19 +6,22 @@ use mathlib.Core.List.{List, [], _∷_}
 use Prim.Native.Nat.{ℕ, _+_, _^_, _<_}
 use native.Mathlib.Nat.{add-zero}
 use native.Mathlib.Omega.{arith}
+use lib.Dec.{lit<}
 use lib.ListN.{length, getD, replicate, length-replicate}
 use Rattle.octet_numbers.specs.Numbers.{be, beBytes}
 use Rattle.octet_numbers.specs.Runs.{part}
 use Rattle.octet_numbers.proofs.Numbers.{length-beBytes, be-part, be-written}
 use Rattle.octet_numbers.proofs.Write.{write-whole}
 use Rattle.table_slots.specs.Slot.{live, within, nasPort, framedAddress, sessionTimeout, idleTimeout, userName, sessionId, callingStation, filterId}
+use Rattle.table_slots.specs.Slot.{downRate, upRate}
 use Rattle.table_slots.proofs.Apart.{and-left, and-right}
 use Rattle.table_slots.proofs.Live.{within-high}
 use Rattle.table_records.specs.Record.{textField}
 use Rattle.table_records.specs.Record.{Session, recordOf, fitsRecord}
 use Rattle.table_records.proofs.Fields.{length-textField}
 use Rattle.table_records.proofs.Texts.{head-there, text-there, take-fits}
-use Rattle.table_records.proofs.Pieces.{Sized, piece-port, piece-address, piece-timeout, piece-idle, piece-user, piece-id, piece-station, piece-filter, pieces-length}
+use Rattle.table_records.proofs.Pieces.{Sized, piece-port, piece-address, piece-timeout, piece-idle, piece-user, piece-id, piece-station, piece-filter}
+use Rattle.table_records.proofs.Pieces.{piece-down, piece-up, pieces-length}
 
 bytes-read : (v : ℕ) → v < 2 ^ 32 → be 0 4 (beBytes 4 v) ≡ v
 bytes-read v h =
@@ -32,7 +35,8 @@ number-read l i v e h =
 -- ---- where the pieces of the record lie
 
 module _ (x : Session) where
-  sized : Sized (0x5A ∷ 0x4C ∷ []) (beBytes 4 (x .port)) (beBytes 4 (x .address)) (beBytes 4 (x .timeout)) (beBytes 4 (x .idle)) (textField 63 (x .user)) (textField 32 (x .id)) (textField 32 (x .station)) (textField 32 (x .filter)) (replicate 11 0)
+  sized : Sized (0x5A ∷ 0x4C ∷ []) (beBytes 4 (x .port)) (beBytes 4 (x .address)) (beBytes 4 (x .timeout)) (beBytes 4 (x .idle))
+      (textField 63 (x .user)) (textField 32 (x .id)) (textField 32 (x .station)) (textField 32 (x .filter)) (beBytes 4 0) (beBytes 4 0) (replicate 3 0)
   sized = record {
     mark = refl;
     port = length-beBytes 4 (x .port);
@@ -43,7 +47,9 @@ module _ (x : Session) where
     id = length-textField 32 (x .id);
     station = length-textField 32 (x .station);
     filter = length-textField 32 (x .filter);
-    rest = length-replicate {A = ℕ} 11 0;
+    down = length-beBytes 4 0;
+    up = length-beBytes 4 0;
+    rest = length-replicate {A = ℕ} 3 0;
   }
 
   pub recorded-length : length (recordOf x) ≡ 192
@@ -83,6 +89,15 @@ module _ (x : Session) where
   pub recorded-idle : x .idle < 2 ^ 32 → idleTimeout (recordOf x) ≡ x .idle
   unfolding recordOf
   recorded-idle h = number-read _ 14 (x .idle) (piece-idle sized) h
+
+  -- the rates of a new session
+  pub recorded-down : downRate (recordOf x) ≡ 0
+  unfolding recordOf
+  recorded-down = number-read _ 181 0 (piece-down sized) (lit< tt)
+
+  pub recorded-up : upRate (recordOf x) ≡ 0
+  unfolding recordOf
+  recorded-up = number-read _ 185 0 (piece-up sized) (lit< tt)
 
   -- ---- the texts, which keep to their limits
 

@@ -34,7 +34,7 @@ sessionOf port address timeout idle user id station filter = record {
   filter = filter;
 }
 
--- all 192 bytes of its slot
+-- all 192 bytes of its slot: a start writes zero rates, down and up, and 189 to 191 stay zero
 unfoldable pub recordOf : Session → List ℕ
 recordOf x =
     (0x5A ∷ 0x4C ∷ [])
@@ -46,7 +46,9 @@ recordOf x =
     ++ textField 32 (x .id)
     ++ textField 32 (x .station)
     ++ textField 32 (x .filter)
-    ++ replicate 11 0
+    ++ beBytes 4 0
+    ++ beBytes 4 0
+    ++ replicate 3 0
 
 -- R8 does not apply: the length of every text is within the record's limits
 unfoldable pub fitsRecord : Session → Bool

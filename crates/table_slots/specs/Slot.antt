@@ -58,3 +58,9 @@ callingStation s = text 115 s
 
 abbrev pub filterId : List ℕ → List ℕ
 filterId s = text 148 s
+
+abbrev pub downRate : List ℕ → ℕ
+downRate s = be 181 4 s
+
+abbrev pub upRate : List ℕ → ℕ
+upRate s = be 185 4 s

@@ -20,6 +20,7 @@ use Rattle.das_effects.specs.Matching.{matchesIn}
 use Rattle.das_effects.specs.Changes.{alterationOf, changeOf, changeMatching}
 use Rattle.das_effects.proofs.Outcomes.{slot-matching, slot-other}
 use Rattle.das_effects.proofs.Altered as E
+use Rattle.das_effects.proofs.Rated as Q
 use Rattle.das_answer.specs.declared.Answer as D
 use Rattle.das_answer.specs.declared.Answer.the-variants as A
 use Rattle.das_answer.specs.Replies.{replyAs}
@@ -77,6 +78,10 @@ module _ (g : Settings) (t b p : List ℕ) (clock : ℕ) where
           idle-same = λ e. E.idle-same (areaOf p) t k l h e;
           filter = λ a e. E.filter-after (areaOf p) t k l h a e (filter-first (codeOf p) (g .«nas_ip») (g .«nas_id») (areaOf p) no-cause 11 a e refl);
           filter-same = λ e. E.filter-same (areaOf p) t k l h e;
+          down = λ v e y. E.down-after (areaOf p) t k l h v (Q.down-set (areaOf p) v e) (Q.down-below (areaOf p) v y e);
+          down-same = λ e. E.down-same (areaOf p) t k l h (Q.down-unset (areaOf p) e);
+          up = λ v e y. E.up-after (areaOf p) t k l h v (Q.up-set (areaOf p) v e) (Q.up-below (areaOf p) v y e);
+          up-same = λ e. E.up-same (areaOf p) t k l h (Q.up-unset (areaOf p) e);
           port-same = E.port-same (areaOf p) t k l h;
           address-same = E.address-same (areaOf p) t k l h;
           user-same = E.user-same (areaOf p) t k l h;

@@ -14,8 +14,9 @@ use Rattle.octet_numbers.specs.Runs.{write}
 use Rattle.attr_walk.specs.declared.Attribute.{Attribute}
 use Rattle.attr_walk.specs.declared.Search.the-variants.{At, Missing}
 use Rattle.attr_walk.specs.Attributes.{attributes, valueOf, firstOf, kindIs}
+use Rattle.attr_vendor.specs.declared.Rate.the-variants.{Unset, Is}
 use Rattle.packet_auth.specs.Signing.{zeros, authenticator}
-use Rattle.table_slots.specs.Slot.{slotCount, slot, live, nasPort, framedAddress, sessionTimeout, idleTimeout, userName, sessionId, callingStation, filterId}
+use Rattle.table_slots.specs.Slot.{slotCount, slot, live, nasPort, framedAddress, sessionTimeout, idleTimeout, userName, sessionId, callingStation, filterId, downRate, upRate}
 use Rattle.table_change.specs.Change.{altered}
 use Rattle.rule_causes.specs.declared.Cause.{Cause}
 use Rattle.rule_causes.specs.declared.Cause.the-variants.{NoCause}
@@ -29,7 +30,7 @@ use Rattle.rule_verdict.specs.Verdict.{verdictOf}
 use Rattle.packet_write.specs.Packets.{macValued}
 use Rattle.das_reply_parts.specs.Reply.{statePart, causePart, proxyPart, maced, replyMac, replyOf}
 use Rattle.das_effects.specs.Matching.{matchesIn, matchCount}
-use Rattle.das_effects.specs.Changes.{alterationOf}
+use Rattle.das_effects.specs.Changes.{alterationOf, ratesNamed}
 use Rattle.das_answer.specs.declared.Answer.the-variants.{Refused, Nak, Ack}
 use Rattle.das_handle.specs.Refusals.{refusalOf}
 use Rattle.das_handle.specs.Handle.{answerOf, handleAnswer, handleTable, handleReply}
@@ -54,6 +55,11 @@ pub record Altered (area s s′ : List ℕ) : Type 0 where
   pub idle-same : firstOf (kindIs 28) (attributes area) ≡ Missing → idleTimeout s′ ≡ idleTimeout s
   pub filter : (a : Attribute) → firstOf (kindIs 11) (attributes area) ≡ At a → filterId s′ ≡ valueOf area a
   pub filter-same : firstOf (kindIs 11) (attributes area) ≡ Missing → filterId s′ ≡ filterId s
+  -- the rates that its Vendor-Specific attribute (26) sets, and no other
+  pub down : (v : ℕ) → ratesNamed area .down ≡ Is v → Bytes area → downRate s′ ≡ v
+  pub down-same : ratesNamed area .down ≡ Unset → downRate s′ ≡ downRate s
+  pub up : (v : ℕ) → ratesNamed area .up ≡ Is v → Bytes area → upRate s′ ≡ v
+  pub up-same : ratesNamed area .up ≡ Unset → upRate s′ ≡ upRate s
   pub port-same : nasPort s′ ≡ nasPort s
   pub address-same : framedAddress s′ ≡ framedAddress s
   pub user-same : userName s′ ≡ userName s

@@ -3,4 +3,5 @@ mod Missed
 mod Absent
 mod Echoed
 mod Naks
+mod Rated
 mod Proved

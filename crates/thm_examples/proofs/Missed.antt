@@ -10,7 +10,7 @@ use lib.Dec.{eqb}
 use Rattle.attr_walk.specs.declared.Attribute.{Attribute}
 use Rattle.attr_walk.specs.declared.Search.the-variants.{At}
 use Rattle.attr_walk.specs.Attributes.{attributes, any, found, firstOf, countOf, kindIs}
-use Rattle.attr_types.specs.Types.{supported, unsupportedIn, misfitOf, misfitting, among, namingTypes, firstRepeated, also, none}
+use Rattle.attr_types.specs.Types.{supported, unsupportedIn, misfitOf, malformed, among, namingTypes, firstRepeated, also, none}
 use Rattle.rule_causes.specs.declared.Cause.the-variants.{MissingAttribute}
 use Rattle.rule_causes.specs.Causes.{mismatched, missing, invalid, causeOf}
 use Rattle.thm_examples.specs.Sizes.{emptyOf}
@@ -45,13 +45,13 @@ module _ (s : List ℕ) (alone : any other (attributes s) ≡ false) (filled : a
   none-of : (q : Attribute → Bool) → ((a : Attribute) → a .kind ≡ 55 → q a ≡ false) → ((a : Attribute) → a .kind ≡ 33 → eqb (a .size) 2 ≡ false → q a ≡ false) → any q (attributes s) ≡ false
   none-of q f g = none-meets q f g (attributes s) (none-strange (attributes s) alone filled)
 
-  all-supported : (code : ℕ) → any (unsupportedIn code) (attributes s) ≡ false
+  all-supported : (code : ℕ) → any (unsupportedIn code s) (attributes s) ≡ false
   unfolding supported
-  all-supported code = none-of (unsupportedIn code) (λ a e. rw (e, or-true)) (λ a e h. rw (e, or-true))
+  all-supported code = none-of (unsupportedIn code s) (λ a e. rw (e, or-true)) (λ a e h. rw (e, or-true))
 
-  none-misfits : any misfitting (attributes s) ≡ false
+  none-misfits : any (malformed s) (attributes s) ≡ false
   unfolding misfitOf
-  none-misfits = none-of misfitting (λ a e. rw e) (λ a e h. rw (e, h))
+  none-misfits = none-of (malformed s) (λ a e. rw e) (λ a e h. rw (e, h))
 
   none-differs : («nas_ip» : ℕ) («nas_id» : List ℕ) → any (mismatched «nas_ip» «nas_id» s) (attributes s) ≡ false
   none-differs «nas_ip» «nas_id» = none-of (mismatched «nas_ip» «nas_id» s) (λ a e. rw e) (λ a e h. rw e)

@@ -21,6 +21,7 @@ use Rattle.rule_verdict.specs.Verdict.{verdictOf}
 use Rattle.thm_examples.specs.Marked.{Marked, MarkedExamples}
 use Rattle.thm_examples.proofs.Echoed.{echo}
 use Rattle.thm_examples.proofs.Naks.{nak-503}
+use Rattle.thm_examples.proofs.Rated.{down-rate, up-rate}
 
 -- D1 by each of two of its parts
 few : (p : List ℕ) → length p ≡ 19 → badLength p ≡ true
@@ -62,6 +63,7 @@ marked g signed p clock =
       no-name = λ slot h. rw (h, and-false, and-false);
       full-echo = λ t b stamp h sized coded tiles long once echoed filled signed usable fresh. echo g p clock stamp sized coded tiles long once echoed filled signed usable fresh t b h;
       session-not-found = λ t b skew n told c i proxies no-24 no-80. nak-503 g t b p clock skew n told no-24 no-80 proxies c i;
+      rate = λ t b m n k skew a ack code first value l h. (down-rate g p clock t b m n k skew a ack code first value l h, up-rate g p clock t b m n k skew a ack code first value l h);
     }
 
 pub examples : MarkedExamples

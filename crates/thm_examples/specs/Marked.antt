@@ -3,14 +3,16 @@
 use mathlib.Core.Bool.{Bool, true, false}
 use mathlib.Core.List.{List, [], _∷_, _++_}
 use mathlib.Core.Path.{_≡_}
-use Prim.Native.Nat.{ℕ, _+_, _≤_}
+use Prim.Native.Nat.{ℕ, _+_, _≤_, _<_}
 use lib.IntN.{ℤ, pos, negℤ}
 use lib.ListN.{length, getD}
 use Rattle.octet_numbers.specs.Numbers.{be}
 use Rattle.octet_numbers.specs.Runs.{write}
-use Rattle.attr_walk.specs.Attributes.{attributes, tiled, any, countOf, kindIs}
+use Rattle.attr_walk.specs.declared.Attribute.{Attribute}
+use Rattle.attr_walk.specs.declared.Search.the-variants.{At}
+use Rattle.attr_walk.specs.Attributes.{attributes, tiled, valueOf, any, firstOf, countOf, kindIs}
 use Rattle.packet_blocks.specs.Block.{blockCount}
-use Rattle.table_slots.specs.Slot.{live}
+use Rattle.table_slots.specs.Slot.{slotCount, slot, live, downRate, upRate}
 use Rattle.rule_stamp.specs.declared.Stamp.the-variants.{Usable}
 use Rattle.rule_stamp.specs.Stamp.{stampOf, stale, skewOf}
 use Rattle.rule_causes.specs.declared.Cause.the-variants.{MissingAttribute, SessionNotFound}
@@ -21,9 +23,10 @@ use Rattle.packet_form.specs.Discards.{badLength, badCode}
 use Rattle.rule_verdict.specs.Discards.{signedBy}
 use Rattle.rule_verdict.specs.Verdict.{freshVerdict, stampVerdict, verdictOf}
 use Rattle.das_reply_parts.specs.Reply.{proxyPart, replyAuth}
-use Rattle.das_answer.specs.declared.Answer.the-variants.{Nak}
+use Rattle.das_effects.specs.Matching.{matchesIn}
+use Rattle.das_answer.specs.declared.Answer.the-variants.{Nak, Ack}
 use Rattle.das_handle.specs.Refusals.{refusalOf}
-use Rattle.das_handle.specs.Handle.{handleAnswer, handleReply}
+use Rattle.das_handle.specs.Handle.{handleAnswer, handleTable, handleReply}
 use Rattle.thm_examples.specs.Sizes.{bytesOfType, emptyOf}
 
 pub record Marked (g : Settings) (signed : Bool) (p : List ℕ) (clock : ℕ) : Type 0 where
@@ -65,6 +68,12 @@ pub record Marked (g : Settings) (signed : Bool) (p : List ℕ) (clock : ℕ) : 
       → (handleReply g t b p clock
       ≡ write b 0 ((0x2A ∷ 0x07 ∷ 0x00 ∷ 0x1D ∷ []) ++ replyAuth (g .secret) p SessionNotFound ++ (0x65 ∷ 0x06 ∷ 0x00 ∷ 0x00 ∷ 0x01 ∷ 0xF7 ∷ 0x21 ∷ 0x03 ∷ 0x41 ∷ [])))
       × (length (replyAuth (g .secret) p SessionNotFound) ≡ 16) × (n ≡ 29)
+  -- Of request 01: a CoA with vendor 32473 and the items 03 08 01 06 00 00 FA 00 sets the down rate to 64,000 and leaves the up rate, in every matching session
+  pub rate : (t b : List ℕ) (m n k : ℕ) (skew : ℤ) (a : Attribute) → handleAnswer g t b p clock ≡ Ack m skew n → codeOf p ≡ 43
+      → firstOf (kindIs 26) (attributes (areaOf p)) ≡ At a
+      → valueOf (areaOf p) a ≡ 0x00 ∷ 0x00 ∷ 0x7E ∷ 0xD9 ∷ 0x03 ∷ 0x08 ∷ 0x01 ∷ 0x06 ∷ 0x00 ∷ 0x00 ∷ 0xFA ∷ 0x00 ∷ []
+      → k < slotCount t → matchesIn (areaOf p) t k ≡ true
+      → (downRate (slot k (handleTable g t b p clock)) ≡ 64000) × (upRate (slot k (handleTable g t b p clock)) ≡ upRate (slot k t))
 
 pub record MarkedExamples : Type 0 where
   pub table : (g : Settings) (signed : Bool) (p : List ℕ) (clock : ℕ) → Marked g signed p clock

@@ -12,4 +12,7 @@ alteration-spec =
     (λ c κs. search (needs, timeout-inside))
     (λ c κs. search (needs, idle-inside))
     (λ c κs. search needs)
+    (λ c κs. search needs)
+    (λ c κs. search needs)
+    (λ c κs. search needs)
     (λ c. search (needs, altered-as)))
