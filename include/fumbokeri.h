@@ -65,7 +65,9 @@
  *   | 82, 83-114  | length 1 to 32, Acct-Session-Id                      |
  *   | 115, 116-147| length 0 to 32, Calling-Station-Id                   |
  *   | 148, 149-180| length 0 to 32, Filter-Id                            |
- *   | 181-191     | zero when written, not read                          |
+ *   | 181-184     | down rate, zero at the start                         |
+ *   | 185-188     | up rate, zero at the start                           |
+ *   | 189-191     | zero when written, not read                          |
  *
  * A slot is live exactly if mark and four lengths are as above; any other
  * content is a free slot. So a table of zeros is empty.
@@ -73,6 +75,25 @@
  * Sessions are started by fbk_start() and ended by fbk_end(). They take a
  * scheduler, since it has to know: where only fbk_handle() is used, make one,
  * open nothing on it, and give it to these two calls alone.
+ *
+ * ## Rate limits
+ *
+ * A CoA-Request may set the rates of a session by one Vendor-Specific
+ * attribute (26) of vendor 32473: 00 00 7E D9, then items one after the other,
+ * each of type, length (counting both) and value.
+ *
+ *   | item | length | value                                              |
+ *   |------|--------|----------------------------------------------------|
+ *   | 1    | 6      | the down rate                                      |
+ *   | 2    | 6      | the up rate                                        |
+ *   | 3    | any    | a group: items, which fill it exactly              |
+ *
+ * Each rate stands at most once in the whole attribute, and groups stand in
+ * each other at most four deep; beyond their items they mean nothing. A rate
+ * is written with all 32 bits, one that is not named stays as it was. So
+ * 1A 0E 00 00 7E D9 03 08 01 06 00 00 FA 00 sets the down rate to 64,000 and
+ * leaves the up rate. A request that sets both has them in one attribute: a
+ * second Vendor-Specific is 404.
  *
  * ## The scheduler
  *
@@ -141,8 +162,9 @@ extern "C" {
  * Framed-IP-Address (8), Calling-Station-Id (31) and Acct-Session-Id (44) that
  * the request has, texts byte for byte with equal length. All matching
  * sessions are changed. A session that ends has its slot filled with zeros. A
- * CoA-Request writes Filter-Id (11), Session-Timeout (27) and Idle-Timeout
- * (28), those of them that it has, and no other byte of the slot.
+ * CoA-Request writes Filter-Id (11), Session-Timeout (27), Idle-Timeout (28)
+ * and the rates of its Vendor-Specific attribute (26), those of them that it
+ * has, and no other byte of the slot.
  *
  * The answer is the first of these that applies:
  *
@@ -165,12 +187,15 @@ extern "C" {
  *
  *   |     | NAK: send the reply; the table stays as it was               |
  *   |-----|--------------------------------------------------------------|
- *   | 401 | an attribute that this request does not support              |
+ *   | 401 | an attribute that this request does not support: in a        |
+ *   |     | CoA-Request also a Vendor-Specific (26) of another vendor    |
  *   | 405 | Service-Type (6): Authorize Only is not served               |
  *   | 404 | a type but Proxy-State (33) repeated; 4, 5, 8, 27 or 28 not  |
- *   |     | of length 6; 1, 11, 24, 31, 32, 33 or 44 with no value       |
+ *   |     | of length 6; 1, 11, 24, 31, 32, 33 or 44 with no value; 26   |
+ *   |     | under length 6 or not as "Rate limits" has it                |
  *   | 403 | NAS-IP-Address (4) or NAS-Identifier (32) of another NAS     |
- *   | 402 | names no session, or a CoA-Request that changes nothing      |
+ *   | 402 | names no session, or a CoA-Request that changes nothing: it  |
+ *   |     | has none of 11, 27, 28 and no 26 that sets a rate            |
  *   | 506 | Filter-Id of more than 32 bytes                              |
  *   | 503 | no live session matches                                      |
  *

@@ -24,6 +24,11 @@ static void show_field(const char *name, const uint8_t *field)
     show_text(field + 1, field[0]);
 }
 
+void show_rates(const uint8_t *slot)
+{
+    printf("down rate %u, up rate %u", (unsigned)number_at(slot + 181), (unsigned)number_at(slot + 185));
+}
+
 void show_slot(const char *when, size_t k, const uint8_t *slot)
 {
     printf("  %-8s slot %u", when, (unsigned)k);
@@ -38,6 +43,8 @@ void show_slot(const char *when, size_t k, const uint8_t *slot)
     show_field("station", slot + 115);
     printf(", Session-Timeout %u, Idle-Timeout %u", (unsigned)number_at(slot + 10), (unsigned)number_at(slot + 14));
     show_field("Filter-Id", slot + 148);
+    printf(", ");
+    show_rates(slot);
     printf("\n");
 }
 
@@ -50,18 +57,19 @@ static void show_bytes(const char *what, const uint8_t *p, size_t n)
     }
 }
 
-enum form { TEXT, NUMBER, ADDRESS, SIGNATURE };
+enum form { TEXT, NUMBER, ADDRESS, VENDOR, SIGNATURE };
 
 static const struct {
     uint8_t type;
     enum form form;
     const char *name;
 } attributes[] = {
-    {1, TEXT, "User-Name"},         {4, ADDRESS, "NAS-IP-Address"},   {5, NUMBER, "NAS-Port"},
-    {8, ADDRESS, "Framed-IP-Address"}, {11, TEXT, "Filter-Id"},       {24, TEXT, "State"},
-    {27, NUMBER, "Session-Timeout"}, {28, NUMBER, "Idle-Timeout"},    {31, TEXT, "Calling-Station-Id"},
-    {32, TEXT, "NAS-Identifier"},   {33, TEXT, "Proxy-State"},        {44, TEXT, "Acct-Session-Id"},
-    {55, NUMBER, "Event-Timestamp"}, {80, SIGNATURE, "Message-Authenticator"}, {101, NUMBER, "Error-Cause"},
+    {1, TEXT, "User-Name"},            {4, ADDRESS, "NAS-IP-Address"},   {5, NUMBER, "NAS-Port"},
+    {8, ADDRESS, "Framed-IP-Address"}, {11, TEXT, "Filter-Id"},          {24, TEXT, "State"},
+    {26, VENDOR, "Vendor-Specific"},   {27, NUMBER, "Session-Timeout"},  {28, NUMBER, "Idle-Timeout"},
+    {31, TEXT, "Calling-Station-Id"},  {32, TEXT, "NAS-Identifier"},     {33, TEXT, "Proxy-State"},
+    {44, TEXT, "Acct-Session-Id"},     {55, NUMBER, "Event-Timestamp"},  {80, SIGNATURE, "Message-Authenticator"},
+    {101, NUMBER, "Error-Cause"},
 };
 
 static void show_attribute(const uint8_t *a)
@@ -76,6 +84,8 @@ static void show_attribute(const uint8_t *a)
             printf("%u", (unsigned)number_at(a + 2));
         if (attributes[i].form == ADDRESS && a[1] == 6)
             show_address(a + 2);
+        if (attributes[i].form == VENDOR && a[1] >= 6)
+            printf("of vendor %u, length %u", (unsigned)number_at(a + 2), a[1]);
         printf("\n");
         return;
     }

@@ -17,6 +17,9 @@ void show_packet(const char *what, const uint8_t *packet);
 /* Slot k of a session table in a line. */
 void show_slot(const char *when, size_t k, const uint8_t *slot);
 
+/* The two rates of a session. */
+void show_rates(const uint8_t *slot);
+
 /* What fbk_handle told. */
 void show_answer(uint32_t answer, uint32_t changed, int64_t skew, uint32_t stamped);
 

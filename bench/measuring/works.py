@@ -16,6 +16,7 @@ def mac(size):
 
 
 PLAIN = authenticator(102) + authenticator(34)
+TIMEOUT, RATES = (authenticator(size) + authenticator(20) for size in (75, 95))
 WITH_MAC = authenticator(120) + mac(120) + mac(52) + authenticator(52)
 ECHOED = authenticator(4096) + authenticator(4096)
 # kind and size for bench/programs/handle.c, title, MD5 messages of request and reply, what a peer takes, goal, decision
@@ -23,9 +24,11 @@ REQUESTS = [
     ("plain", 64, "Disconnect, no MAC, 102 bytes, 64 slots, all live", PLAIN, "hostapd 11,648", 4500, 34),
     ("lone", 64, "the same, one slot live", PLAIN, "hostapd 11,648", 4500, 34),
     ("mac", 64, "Disconnect, MAC, 120 bytes, 64 slots, all live", WITH_MAC, "hostapd 20,100", 12000, 34),
-    ("short", 4096, "4,096 bytes of 3-byte Proxy-States, echoed", ECHOED, "FreeRADIUS 256,195", 200000, 34),
+    ("short", 4096, "4,096 bytes of 3-byte Proxy-States, echoed", ECHOED, "FreeRADIUS 256,195", 200000, None),
     ("long", 4096, "4,096 bytes of 255-byte Proxy-States, echoed", ECHOED, "FreeRADIUS 256,195", 200000, None),
     ("forged", 64, "wrong authenticator, 120 bytes", authenticator(120), "hostapd 5,718", 3000, None),
+    ("timeout", 64, "CoA, Session-Timeout, 75 bytes, 64 slots, all live", TIMEOUT, "", None, None),
+    ("rates", 64, "CoA, both rates in four groups, 95 bytes", RATES, "", None, None),
 ]
 
 
@@ -40,6 +43,7 @@ def requests():
         floor = sum(map(blocks, messages)) * callgrind.block()
         openssl = sum(callgrind.digested("openssl", "MD5", message) for message in messages)
         yield Row(title, callgrind.handled(kind, size), f"handle-{kind}-{size}", goal, decision, floor, openssl, peers)
+    yield Row("rates in four groups, beyond Session-Timeout", callgrind.handled("rates", 64) - callgrind.handled("timeout", 64), goal=1200)
 
 
 def steps():
@@ -50,6 +54,6 @@ def steps():
         ("hash", "Hash, the first block", 1200, None),
         ("check", "Check, 102 bytes", 1150, None),
         ("match", "Match of one slot, 102 bytes read again", 1600, None),
-        ("commit", "Commit of an ACK, read again, the reply signed", 2900, 43),
+        ("commit", "Commit of an ACK, read again, the reply signed", 2900, None),
     ]:
         yield Row(title, callgrind.per_call("steps", kind, function="fbk_step_lent"), f"steps-{kind}", goal, decision)

@@ -13,15 +13,17 @@ static size_t slots = FBK_SLOTS_MAX;
 /* SIZE is the number of slots, or where there are Proxy-States of so many bytes, the packet's Length. */
 static const struct kind {
     const char *name;
+    enum request { DISCONNECT, WITH_MAC, TIMEOUT, RATES } request;
     size_t states;
     enum neighbours others;
-    int mac, flip;
+    int flip;
     uint32_t answer, changed, reply_len;
 } kinds[] = {
-    {"plain", 0, OTHER_TEXT, 0, 0, 0, 1, 34},    {"lone", 0, FREE, 0, 0, 0, 1, 34},
-    {"length", 0, OTHER_LENGTH, 0, 0, 0, 1, 34}, {"mac", 0, OTHER_TEXT, 1, 0, 0, 1, 52},
-    {"forged", 0, OTHER_TEXT, 1, 1, 104, 0, 0},  {"short", 3, OTHER_TEXT, 0, 0, 402, 0, 0},
-    {"long", 255, OTHER_TEXT, 0, 0, 402, 0, 0},
+    {"plain", DISCONNECT, 0, OTHER_TEXT, 0, 0, 1, 34},    {"lone", DISCONNECT, 0, FREE, 0, 0, 1, 34},
+    {"length", DISCONNECT, 0, OTHER_LENGTH, 0, 0, 1, 34}, {"mac", WITH_MAC, 0, OTHER_TEXT, 0, 0, 1, 52},
+    {"forged", WITH_MAC, 0, OTHER_TEXT, 1, 104, 0, 0},    {"short", DISCONNECT, 3, OTHER_TEXT, 0, 402, 0, 0},
+    {"long", DISCONNECT, 255, OTHER_TEXT, 0, 402, 0, 0},  {"timeout", TIMEOUT, 0, OTHER_TEXT, 0, 0, 1, 20},
+    {"rates", RATES, 0, OTHER_TEXT, 0, 0, 1, 20},
 };
 
 static void make(const struct kind *kind, size_t size)
@@ -30,7 +32,10 @@ static void make(const struct kind *kind, size_t size)
         make_states(size, kind->states);
     } else {
         slots = size;
-        make_disconnect(kind->mac);
+        if (kind->request == TIMEOUT || kind->request == RATES)
+            make_coa(kind->request == RATES);
+        else
+            make_disconnect(kind->request == WITH_MAC);
     }
     packet[4] ^= kind->flip;
     fill_table(fresh, slots, kind->others);

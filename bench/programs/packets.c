@@ -15,10 +15,10 @@ static void put(uint8_t kind, const void *value, size_t n)
     length += n + 2;
 }
 
-static void begin(void)
+static void begin(uint8_t code)
 {
     memset(packet, 0, 20);
-    packet[0] = 40;
+    packet[0] = code;
     packet[1] = 7;
     length = 20;
 }
@@ -36,14 +36,20 @@ static void sign(void)
     plain_md5(message, length + sizeof secret, packet + 4);
 }
 
-void make_disconnect(int with_mac)
+/* What each request here begins with: stamp, gate, session. */
+static void begin_request(uint8_t code)
 {
-    begin();
+    begin(code);
     put_stamp();
     put(4, "\xC0\0\2\7", 4);
     put(32, nas_id, sizeof nas_id);
     put(1, "alice@example.org", 17);
     put(44, "0000004F", 8);
+}
+
+void make_disconnect(int with_mac)
+{
+    begin_request(40);
     put(31, "02-00-5E-10-00-01", 17);
     put(33, "proxy state.", 12);
     if (with_mac) {
@@ -56,10 +62,21 @@ void make_disconnect(int with_mac)
     sign();
 }
 
+void make_coa(int with_rates)
+{
+    static const uint8_t in_four_groups[] = {0, 0, 0x7E, 0xD9, 3, 20, 3, 18, 3, 16, 3, 14, 1, 6, 0, 0, 0xFA, 0, 2, 6, 0, 0, 0x7D, 0};
+    begin_request(43);
+    if (with_rates)
+        put(26, in_four_groups, sizeof in_four_groups);
+    else
+        put(27, "\0\1\0\xD4", 4);
+    sign();
+}
+
 void make_states(size_t n, size_t each)
 {
     static const uint8_t value[253] = "proxy state";
-    begin();
+    begin(40);
     if (n > length)
         put_stamp();
     while (n - length >= each + 3)

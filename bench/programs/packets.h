@@ -1,4 +1,4 @@
-/* Requests to measure with: Disconnect-Requests of now, signed. */
+/* Requests to measure with, of now and signed. */
 #include <stddef.h>
 #include <stdint.h>
 
@@ -10,6 +10,9 @@ extern size_t length;
 
 /* For the session of alice@example.org: 102 bytes, or 120 with a Message-Authenticator, last. */
 void make_disconnect(int with_mac);
+
+/* A CoA-Request for the same session: 75 bytes with a Session-Timeout, or 95 with both rates in four groups. Both have as many MD5 blocks. */
+void make_coa(int with_rates);
 
 /* Length n: a stamp, then Proxy-States of so many bytes each; the last is longer where they do not fill it. Length 20 has no attribute. */
 void make_states(size_t n, size_t each);

@@ -106,6 +106,8 @@ static int measure_packets(void)
         right &= measure_all(104);
     }
     with_mac = 0;
+    make_coa(1);
+    right &= measure_all(0);
     make_states(4096, 3);
     right &= measure_all(402);
     make_states(4096, 255);

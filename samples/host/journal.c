@@ -58,13 +58,24 @@ static void tell_rule(const struct exchange *x)
     printf(" | ");
 }
 
+/* A slot that differs; with its rates, where the session is there still and they are new. */
+static void tell_slot(unsigned k, const uint8_t *slot, const uint8_t *before)
+{
+    printf(", slot %u", k);
+    if (slot[0] == 0 || memcmp(before + 181, slot + 181, 8) == 0)
+        return;
+    printf(" (");
+    show_rates(slot);
+    printf(")");
+}
+
 /* Slots that differ; an ACK may also write what was there before. */
 static void tell_changes(const struct host *host, const struct exchange *x, const uint8_t *before)
 {
     printf(" | sessions changed: %u", (unsigned)x->changed);
     for (size_t at = 0; at < host->table_len; at += FBK_SLOT_SIZE)
         if (memcmp(before + at, host->table + at, FBK_SLOT_SIZE) != 0)
-            printf(", slot %u", (unsigned)(at / FBK_SLOT_SIZE));
+            tell_slot((unsigned)(at / FBK_SLOT_SIZE), host->table + at, before + at);
 }
 
 void tell_exchange(const struct host *host, const struct exchange *x, const uint8_t *before, int sent)

@@ -63,6 +63,19 @@ static size_t put_in(uint8_t *data, size_t size, size_t most, const uint8_t *byt
     return size + count;
 }
 
+/* Of a type 26: mostly our vendor, and rates and empty groups. */
+static void put_items(uint8_t *one)
+{
+    static const uint8_t ours[4] = {0x00, 0x00, 0x7E, 0xD9}; /* 32473 */
+    if (one[1] < 6 || drawn(4) == 0)
+        return;
+    memcpy(one + 2, ours, sizeof ours);
+    for (size_t at = 6; at + 1 < one[1]; at += one[at + 1]) {
+        one[at] = 1 + drawn(3);
+        one[at + 1] = one[at] == 3 ? 2 : 6;
+    }
+}
+
 /* An attribute of a type that a request may have, or one beside it. */
 static size_t put_attribute(uint8_t *data, size_t size, size_t most)
 {
@@ -73,6 +86,8 @@ static size_t put_attribute(uint8_t *data, size_t size, size_t most)
         one[k] = drawn(256);
     one[0] = kinds[drawn(sizeof kinds)];
     one[1] = sizes[drawn(sizeof sizes)];
+    if (one[0] == 26)
+        put_items(one);
     return put_in(data, size, most, one, one[1]);
 }
 

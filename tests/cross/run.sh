@@ -138,7 +138,8 @@ for platform in x86-64 aarch64 riscv64; do
     stored vectors crates/vectors/stdout
     tests/cross/installed.sh $platform "$library"
     count $? "$platform: a program with the installed library does not do what it should"
-    found handle turns_the_skew keeps_16_bits signs_over_zeros writes_behind_the_reply reads_behind_the_packet
+    found handle turns_the_skew keeps_16_bits signs_over_zeros writes_behind_the_reply reads_behind_the_packet keeps_16_bits_of_a_rate \
+        takes_an_item_past_its_group
     found write clears_the_rest
     found check_reply takes_any_mac
     found scheduler copies_the_padding frees_no_discarded_job writes_the_reply_early

@@ -89,6 +89,8 @@ struct told handled(const struct gate *g, uint8_t *table, size_t table_len, uint
     if (t.answer == 0) {
         t.changed = change_all(table, table_len, packet.at[0], &f);
         t.answer = t.changed > 0 ? 0 : 503;
+        if (t.changed > 0)
+            acknowledged(&f);
     }
     t.reply_len = put_reply(reply, packet.at, &f, t.answer, g->secret);
     return t;

@@ -14,6 +14,10 @@ static void print_answers(void)
     for (int k = 0; k < 1000; k++)
         if (answers[k] > 0)
             fprintf(stderr, " %d(%lu)", k, answers[k]);
+    fputs("\ntype 26:", stderr);
+    for (int k = FITS + 1; k < EVENTS; k++)
+        if (events[k] > 0)
+            fprintf(stderr, " %s(%lu)", event_names[k], events[k]);
     fputs("\n", stderr);
 }
 

@@ -1,4 +1,4 @@
-/* Document 01 in C, a second implementation from its words alone: what the library must tell and write. It shares no code with it. */
+/* Documents 01 and 02 in C, a second implementation from their words alone: what the library must tell and write. It shares no code with it. */
 #ifndef MODEL_H
 #define MODEL_H
 
@@ -38,6 +38,42 @@ struct session {
     struct bytes texts[4]; /* user, id, station, filter */
 };
 
+/* How a type 26 decides: FITS where it does not; those up to FIFTH_GROUP are what is wrong with one, the others what came of one that fits. */
+enum event {
+    FITS,
+    ANOTHER_VENDOR,
+    UNDER_LENGTH_6,
+    TWICE,
+    OTHER_ITEM,
+    ITEM_LENGTH, /* 0 or 1 */
+    PAST_TYPE_26,
+    PAST_GROUP, /* and inside the type 26 */
+    LONE_BYTE,
+    RATE_LENGTH,
+    RATE_TWICE, /* in one list */
+    RATE_TWICE_IN_GROUPS,
+    FIFTH_GROUP,
+    NO_RATE_402,
+    NO_RATE_ACK,
+    DOWN_ACK,
+    UP_ACK,
+    BOTH_ACK,
+    FOUR_GROUPS_ACK,
+    EVENTS
+};
+
+struct rates {
+    const uint8_t *down, *up; /* four bytes; NULL where it is not set */
+    int groups;               /* that stand in each other */
+};
+
+/* All type 26 of a request. */
+struct vendors {
+    int count, is_of_another; /* how many; one of them */
+    enum event event; /* what is wrong with ours */
+    struct rates rates;
+};
+
 extern const uint8_t no_auth[16]; /* zeros: a request's authenticator field while it is signed */
 
 /* Packets. */
@@ -49,6 +85,14 @@ int bad_length(const uint8_t *p, size_t size);                                /*
 int read_attributes(const uint8_t *run, size_t size, struct found *f);        /* 0 by D3's rule; of at most 4,076 bytes */
 uint32_t bad_form(const uint8_t *p, size_t size, struct found *f);            /* 101 to 103, or 0 and the attributes */
 struct told judged(const struct gate *g, const uint8_t *p, const struct found *f, uint32_t clock); /* D4 to D6, causes 1 to 6 */
+
+/* Type 26. */
+struct vendors vendors_in(const struct found *f);
+int has_rate(const struct vendors *v);
+void acknowledged(const struct found *f);                 /* counts what an acknowledged CoA-Request sets */
+uint32_t decided(enum event event, uint32_t answer);      /* the answer, which a type 26 alone decided so; counted */
+extern unsigned long events[EVENTS];                      /* how often each came up */
+extern const char *const event_names[EVENTS];
 
 /* Signatures; auth is what stands for the authenticator field, n is Length, at the place of a Message-Authenticator's value. */
 void authenticator(const uint8_t *p, size_t n, const uint8_t *auth, struct bytes secret, uint8_t out[16]);

@@ -41,8 +41,9 @@ uint32_t bad_form(const uint8_t *p, size_t size, struct found *f)
     return read_attributes(p + 20, length_of(p) - 20, f) ? 0 : 103;
 }
 
-static const uint8_t for_both[] = {1, 4, 5, 6, 8, 24, 31, 32, 33, 44, 55, 80}, for_coa[] = {11, 27, 28};
-static const uint8_t naming[] = {1, 5, 8, 31, 44}, of_length_6[] = {4, 5, 8, 27, 28}, not_empty[] = {1, 11, 24, 31, 32, 33, 44};
+static const uint8_t for_both[] = {1, 4, 5, 6, 8, 24, 31, 32, 33, 44, 55, 80}, for_coa[] = {11, 26, 27, 28};
+static const uint8_t naming[] = {1, 5, 8, 31, 44}, changing[] = {11, 27, 28}; /* and 26 where it sets a rate */
+static const uint8_t of_length_6[] = {4, 5, 8, 27, 28}, not_empty[] = {1, 11, 24, 31, 32, 33, 44};
 
 #define IS_AMONG(kind, list) (memchr(list, kind, sizeof list) != NULL)
 
@@ -69,27 +70,34 @@ static int has_any(const unsigned *count, const uint8_t *kinds, size_t n)
     return 0;
 }
 
-/* Causes 1 to 6, first that applies, or 0. */
+/* Causes 1 to 6, first that applies, or 0. What is wrong with a type 26, its being there twice too, stands in `v`. */
 static uint32_t cause(const struct gate *g, uint8_t code, const struct found *f)
 {
     unsigned count[256] = {0};
     int unsupported = 0, invalid = 0, other = 0, oversized = 0;
+    struct vendors v = vendors_in(f);
     for (const struct attribute *a = f->all; a < f->all + f->count; a++) {
         unsupported |= !is_supported(code, a->kind);
-        invalid |= (count[a->kind]++ > 0 && a->kind != 33) || has_wrong_size(a);
+        invalid |= (count[a->kind]++ > 0 && a->kind != 33 && a->kind != 26) || has_wrong_size(a);
         other |= is_of_another(g, a);
         oversized |= a->kind == 11 && a->size > 32;
     }
     if (unsupported)
         return 401;
+    if (v.is_of_another)
+        return decided(ANOTHER_VENDOR, 401);
     if (count[6] > 0)
         return 405;
     if (invalid)
         return 404;
+    if (v.event != FITS)
+        return decided(v.event, 404);
     if (other)
         return 403;
-    if (!has_any(count, naming, sizeof naming) || (code == 43 && !has_any(count, for_coa, sizeof for_coa)))
+    if (!has_any(count, naming, sizeof naming))
         return 402;
+    if (code == 43 && !has_any(count, changing, sizeof changing) && !has_rate(&v))
+        return v.count > 0 ? decided(NO_RATE_402, 402) : 402;
     return oversized ? 506 : 0;
 }
 

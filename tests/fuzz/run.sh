@@ -3,12 +3,12 @@
 # Its last line is 'N passed, 0 failed'. An input that is answered wrongly is kept, and named with the command that runs it again.
 #
 #   handle.c write.c check_reply.c scheduler.c   a program each: an input becomes calls, and what they tell and write is held beside the model
-#   *_model.c, model.h     the second implementation, from document 01; it works out every byte that a call must write
+#   *_model.c, model.h     the second implementation, from documents 01 and 02; it works out every byte that a call must write
 #   parts.c, mend.c        an input as parts; a mutated packet put right (Length, signatures ..), so that it gets past the first rules
 #   room.c                 memory with fences and guard bytes
-#   seeds.py               inputs to start from; what is found on the way is kept in target/fuzz/corpus, and later runs go on from there
+#   seeds.py, rate_seeds.py   inputs to start from; what is found on the way is kept in target/fuzz/corpus, and later runs go on from there
 #   wrong_*.c, self_test.sh   the library with something wrong in it: the programs must find it
-#   seen.sh                the answers that a run must have reached
+#   seen.sh                the answers, and the ways in which a type 26 decides, that a run must have reached
 #   kit.sh, build.sh       how the fuzzer sees which branches the library takes
 set -u
 cd "$(dirname "$0")/../.." || exit 1
@@ -51,7 +51,7 @@ fuzzed() { # PROGRAM
     reached=$(sed -n 's/^#.* cov: \([0-9]*\) .*/\1/p' "$log" | tail -n 1)
     places=$(sed -n 's/^INFO: Loaded .* PC tables (\([0-9]*\) PCs).*/\1/p' "$log")
     echo "$name: ${runs:-?} runs, corpus $(find "$room/corpus/$name" -type f | wc -l), ${reached:-?} of ${places:-?} branches reached, $found findings"
-    sed -n 's/^answers:/    answers (how often):/p' "$log"
+    sed -n -e 's/^answers:/    answers (how often):/p' -e 's/^type 26: /    decided by a type 26: /p' "$log"
     count $found "$name has a finding"
     [ $found -ne 0 ] || { tests/fuzz/seen.sh "$name" "$log"; count $? "$name does not reach every answer"; }
     run "$name-shipped" "$room/$name-shipped.log" -runs=0

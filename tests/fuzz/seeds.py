@@ -2,11 +2,12 @@
 import pathlib
 import sys
 
+from tests.fuzz.rate_seeds import DECIDING, words
 from tests.inputs.exchange_drafts import any_asked, any_reply
 from tests.inputs.handler_drafts import HOUSES, Draft
 from tests.inputs.handler_faults import FAULTS
-from tests.inputs.packets import attribute
-from tests.inputs.scheduler_lists import any_gate, posted
+from tests.inputs.packets import COA, attribute
+from tests.inputs.scheduler_lists import Posted, any_gate, posted
 from tests.inputs.scheduler_world import World
 from tests.inputs.tables import seeded
 from tests.models.packet_model import Gate
@@ -40,6 +41,14 @@ def small_draft(rng):
             return draft
 
 
+def with_rates(draft, parts):
+    """A short CoA-Request in which these are the only changes."""
+    draft.code, draft.padding = COA, b""
+    draft.without(11, 24, 26, 27, 28, 33)
+    draft.parts += parts
+    return draft
+
+
 def end_with_state(draft):
     """A few bytes to be copied, that lie close before the reply where buffers lie close together."""
     draft.without(24)
@@ -49,12 +58,14 @@ def end_with_state(draft):
 def handle(rng, turn):
     """A call with none or one of the faults. Every other is mended, which the draft's packet needs not until it is mutated."""
     draft = small_draft(rng)
-    if turn % 3:
+    if turn >= COUNT:
+        with_rates(draft, DECIDING[turn - COUNT][1])
+    elif turn % 3:
         FAULTS[turn // 3 % len(FAULTS)][1](draft)
     if turn % 8 == 0:
         end_with_state(draft)
     call = draft.call()
-    what, clock = (ALL, CLOCKS[turn // 2 % len(CLOCKS)]) if turn % 2 else (0, call.clock)
+    what, clock = (ALL, CLOCKS[turn // 2 % len(CLOCKS) if turn < COUNT else 0]) if turn % 2 else (0, call.clock)
     table = call.table or b""
     settings = bytes([what]) + table_numbers(table) + buffer_number(len(call.reply or b"")) + bytes([1 + 2 * (turn % 5 > 2)])
     settings += call.address.to_bytes(4, "big") + clock.to_bytes(4, "big") + b"reply"
@@ -89,23 +100,26 @@ def scheduler(rng, turn):
     world = World(table, Gate(*gate))
     packets = [posted(rng, world, 10**9)[:400] for _ in range(4)]
     calls = b"".join(any_call(rng) for _ in range(rng.choice([8, 16, 32])))
+    if turn >= COUNT:
+        packets[0] = with_rates(Posted(rng, world, 10**9), DECIDING[turn - COUNT][1]).packet()[:400]
+        calls = bytes([0, 0, 2, 0, 2, 0, 140, 0]) + calls  # it is opened, and steps are taken to its end
     settings = table_numbers(table) + gate.address.to_bytes(4, "big") + bytes([turn % 4 == 3]) + bytes([63] * 4) + b"store"
     return joined(settings, gate.secret, gate.name, table, calls, *packets)
 
 
 def dictionary():
-    """Attributes for the fuzzer to put in, one of each type that a request may have, and some."""
+    """Attributes for the fuzzer to put in, one of each type that a request may have, and some; and what a type 26 holds."""
     sizes = {4: 4, 5: 4, 8: 4, 27: 4, 28: 4, 55: 4, 6: 4, 101: 4, 80: 16}
-    for kind in [1, 4, 5, 6, 8, 11, 24, 27, 28, 31, 32, 33, 44, 55, 80, 26, 101]:
-        for size in {sizes.get(kind, 5), 0}:
-            yield '"%s"\n' % "".join(f"\\x{byte:02X}" for byte in attribute(kind, bytes(size)))
+    kinds = [1, 4, 5, 6, 8, 11, 24, 27, 28, 31, 32, 33, 44, 55, 80, 26, 101]
+    for run in [attribute(kind, bytes(size)) for kind in kinds for size in {sizes.get(kind, 5), 0}] + list(words()):
+        yield '"%s"\n' % "".join(f"\\x{byte:02X}" for byte in run)
 
 
 def main(to):
     for draft in (handle, write, check_reply, scheduler):
         folder = to / draft.__name__
         folder.mkdir(parents=True, exist_ok=True)
-        for turn in range(COUNT):
+        for turn in range(COUNT + (len(DECIDING) if draft in (handle, scheduler) else 0)):
             (folder / str(turn)).write_bytes(draft(seeded("fuzz", draft.__name__, turn), turn))
     (to / "dictionary").write_text("".join(dictionary()))
 

@@ -60,9 +60,10 @@ static void put_text(uint8_t *slot, int text, struct bytes value)
         memcpy(at + 1, value.at, value.size);
 }
 
-/* A Disconnect ends the session; a CoA writes only the fields of 11, 27 and 28. */
+/* A Disconnect ends the session; a CoA writes only the fields of 11, 26, 27 and 28. */
 void change(uint8_t *slot, uint8_t code, const struct found *f)
 {
+    struct rates rates = vendors_in(f).rates;
     if (code == 40) {
         memset(slot, 0, SLOT);
         return;
@@ -75,6 +76,10 @@ void change(uint8_t *slot, uint8_t code, const struct found *f)
         if (a->kind == 11)
             put_text(slot, FILTER, (struct bytes){a->value, a->size});
     }
+    if (rates.down != NULL)
+        memcpy(slot + 181, rates.down, 4);
+    if (rates.up != NULL)
+        memcpy(slot + 185, rates.up, 4);
 }
 
 uint32_t start_session(uint8_t *table, size_t table_len, const struct session *one, uint32_t *slot)

@@ -3,16 +3,6 @@
 
 #include "wrong.h"
 
-struct call {
-    uint8_t *table, *reply;
-    const uint8_t *before; /* the table as it was */
-    size_t slots;
-    struct bytes secret, packet;
-    uint32_t *changed, *reply_len, *stamped;
-    int64_t *skew;
-    uint32_t answer;
-};
-
 static int is_coa(const struct call *c) { return c->answer == 0 && c->packet.at[0] == 43; }
 
 static void makes_up_the_count(struct call *c) { *c->changed = c->answer == 0 ? c->slots : 0; }
@@ -93,7 +83,7 @@ static void remembers(struct call *c)
     last = c->answer;
 }
 
-static const struct { const char *name; void (*spoil)(struct call *); } wrongs[] = {
+static const struct wrong wrongs[] = {
     {"makes_up_the_count", makes_up_the_count},
     {"leaves_the_table", leaves_the_table},
     {"changes_the_first_match", changes_the_first_match},
@@ -108,7 +98,15 @@ static const struct { const char *name; void (*spoil)(struct call *); } wrongs[]
     {"writes_before_the_table", writes_before_the_table},
     {"reads_behind_the_packet", reads_behind_the_packet},
     {"remembers", remembers},
+    {NULL, NULL},
 };
+
+static void spoil(struct call *c, const struct wrong *list)
+{
+    for (; list->name != NULL; list++)
+        if (is_wrong(list->name))
+            list->spoil(c);
+}
 
 uint32_t __real_fbk_handle(uint8_t *, size_t, const uint8_t *, size_t, uint32_t, const uint8_t *, size_t, uint8_t *, size_t, const uint8_t *, size_t,
                            uint32_t, uint32_t *, uint32_t *, int64_t *, uint32_t *);
@@ -124,8 +122,7 @@ uint32_t __wrap_fbk_handle(uint8_t *table, size_t table_len, const uint8_t *secr
     struct call c = {table, reply, before, slots, {secret, secret_len}, {packet, packet_len}, changed, reply_len, stamped, skew, 0};
     c.answer = __real_fbk_handle(table, table_len, secret, secret_len, nas_ip, nas_id, nas_id_len, reply, reply_size, packet, packet_len, clock,
                                  changed, reply_len, skew, stamped);
-    for (size_t k = 0; k < sizeof wrongs / sizeof *wrongs; k++)
-        if (is_wrong(wrongs[k].name))
-            wrongs[k].spoil(&c);
+    spoil(&c, wrongs);
+    spoil(&c, wrong_rates);
     return c.answer;
 }

@@ -63,7 +63,10 @@ uint32_t __wrap_fbk_open_lent(SCHEDULER, const uint8_t *packet, size_t packet_le
 uint32_t __wrap_fbk_step_lent(SCHEDULER, uint32_t job, uint8_t *table, size_t table_len, uint8_t *reply, size_t reply_size, const uint8_t *store,
                               size_t store_len, uint32_t *changed, uint32_t *reply_len, int64_t *skew, uint32_t *stamped)
 {
+    static uint8_t table_before[FBK_SLOTS_MAX * FBK_SLOT_SIZE];
     remember(words, kinds, places, marks);
+    if (slot_count(table_len) > 0)
+        memcpy(table_before, table, table_len);
     uint32_t answer = __real_fbk_step_lent(TAKEN_APART, job, table, table_len, reply, reply_size, store, store_len, changed, reply_len, skew,
                                            stamped);
     if (is_wrong("never_ends") && answer == 600 && before.places[job][0] == 2)
@@ -76,6 +79,9 @@ uint32_t __wrap_fbk_step_lent(SCHEDULER, uint32_t job, uint8_t *table, size_t ta
         *stamped = 1;
     if (is_wrong("writes_to_the_secret") && answer == 503)
         ((uint8_t *)secret)[63] ^= 1;
+    if (is_wrong("commits_no_rate") && answer == 0 && reply[0] == 44)
+        for (size_t at = 0; at < table_len; at += FBK_SLOT_SIZE)
+            memcpy(table + at + 181, table_before + at + 181, 8);
     return answer;
 }
 
@@ -96,6 +102,8 @@ uint32_t __wrap_fbk_start_lent(SCHEDULER, uint8_t *table, size_t table_len, uint
                                             id_len, station, station_len, filter, filter_len, slot);
     if (is_wrong("commits_marks_of_before_a_start") && answer == 0)
         put_all_back(words, kinds, places, marks);
+    if (is_wrong("starts_with_a_rate") && answer == 0)
+        table[*slot * FBK_SLOT_SIZE + 188] = 1;
     return answer;
 }
 

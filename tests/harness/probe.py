@@ -27,7 +27,7 @@ SIGNATURES = {
     "table_live": BYTES + SIZE,
     "table_match": BYTES + SIZE + BYTES + BYTES,
     "table_marks": BYTES + BYTES + BYTES + BYTES,
-    "table_change": BYTES + BYTES + BYTES + U32 + (U32 + U32) * 2 + U32 + SIZE + SIZE + POINTER,
+    "table_change": BYTES + BYTES + BYTES + U32 + (U32 + U32) * 2 + U32 + SIZE + SIZE + (U32 + U32) * 2 + POINTER,
     "table_insert": BYTES + U32 * 4 + BYTES * 4 + POINTER,
     "table_remove": BYTES + SIZE,
     "handle": BYTES + BYTES + U32 + BYTES + BYTES + BYTES + U32 + POINTER * 4,

@@ -2,6 +2,7 @@
 from typing import Callable, NamedTuple
 
 from tests.inputs.packets import COA, DISCONNECT, GATE, attribute
+from tests.inputs.vendor_items import OURS, down, group, item, nested, up, vendor
 from tests.models.packet_model import attributes, length_of
 from tests.models.table_model import number
 
@@ -146,11 +147,23 @@ CLAUSES = [
     Write("type 5 of length 5", replacing(5, attribute(5, bytes(3))), 404),
     Write("type 27 of length 7", replacing(27, attribute(27, bytes(5))), 404, (COA,)),
     Write("type 11 with no value", replacing(11, attribute(11, b"")), 404, (COA,)),
+    Write("a type 26 in a Disconnect", adding(vendor(down())), 401, (DISCONNECT,)),
+    Write("type 26 of another vendor", replacing(26, vendor(down(), of=number(32474))), 401),
+    Write("type 26 of length 5", replacing(26, attribute(26, OURS[:3])), 404, (COA,)),
+    Write("type 26 twice", again(26), 404, (COA,)),
+    Write("an item 4 in type 26", replacing(26, vendor(down(), item(4))), 404, (COA,)),
+    Write("an item of length 1 in type 26", replacing(26, vendor(down(), b"\3\1")), 404, (COA,)),
+    Write("a lone byte in type 26", replacing(26, vendor(down(), b"\3")), 404, (COA,)),
+    Write("a rate of length 7", replacing(26, vendor(item(1, bytes(5)))), 404, (COA,)),
+    Write("a rate past its group", replacing(26, vendor(group(down()[:4]), group())), 404, (COA,)),
+    Write("a rate in two groups", replacing(26, vendor(group(down()), group(down()))), 404, (COA,)),
+    Write("a fifth group", replacing(26, vendor(nested(b"", 5))), 404, (COA,)),
     Write("another NAS-IP-Address", replacing(4, attribute(4, number(GATE.address ^ 1))), 403),
     Write("another NAS-Identifier", replacing(32, attribute(32, turned(GATE.name))), 403),
     Write("a longer NAS-Identifier", replacing(32, attribute(32, GATE.name + b"\0")), 403),
     Write("no criterion", gone(1, 5, 8, 31, 44), 402),
-    Write("no change", gone(11, 27, 28), 402, (COA,)),
+    Write("no change", gone(11, 26, 27, 28), 402, (COA,)),
+    Write("no change but a type 26 without a rate", lambda p: replacing(26, vendor(group()))(gone(11, 26, 27, 28)(p)), 402, (COA,)),
     Write("a Filter-Id of 33 bytes", replacing(11, attribute(11, bytes(33))), 506, (COA,)),
 ]
 FOLLOWED = [  # no clause of the rule
@@ -163,6 +176,10 @@ FOLLOWED = [  # no clause of the rule
     Write("another Proxy-State", value(33, turned), 0),
     Write("another Session-Timeout", value(27, turned), 0),
     Write("another Filter-Id", value(11, turned), 0),
+    Write("another rate", value(26, turned), 0),
+    Write("a rate in four groups", replacing(26, vendor(nested(up(7), 4))), 0, (COA,)),
+    Write("a type 26 without a rate", replacing(26, vendor(group())), 0, (COA,)),
+    Write("no type 26", gone(26), 0, (COA,)),
     Write("a State", replacing(24, attribute(24, b"late")), 0),
     Write("a NAS-Port", replacing(5, attribute(5, number(7))), 0),
     Write("a type 80", replacing(80, attribute(80, bytes(16))), 105),

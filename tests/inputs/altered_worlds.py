@@ -3,6 +3,7 @@ from tests.inputs.alterations import CLAUSES, FOLLOWED
 from tests.inputs.packets import CLOCK, COA, CODES, DISCONNECT, MAC, STAMP, TIMEOUT, USER, attribute, request, stamp
 from tests.inputs.scheduler_world import World
 from tests.inputs.tables import free, loose, seeded, session
+from tests.inputs.vendor_items import down, group, up, vendor
 from tests.models import scheduler_model, table_model
 from tests.models.scheduler_model import CHECK
 from tests.models.table_model import number
@@ -10,6 +11,7 @@ from tests.models.table_model import number
 RNG = seeded("read again")
 ANN, BEN = session(RNG, user=b"ann", port=7), session(RNG, user=b"ano", port=7)
 SPARE = attribute(33, RNG.randbytes(100))  # room for what is put in
+RATES = vendor(group(down(64000), up(128000)))
 OTHER = request(COA, [attribute(1, b"ano"), TIMEOUT, STAMP])
 
 
@@ -22,7 +24,7 @@ TABLE = people("-ab-a")
 
 
 def parts(code, signed):
-    return [USER] + [TIMEOUT] * (code == COA) + [STAMP, attribute(24, b"state")] + [MAC] * signed + [SPARE]
+    return [USER] + [TIMEOUT] * (code == COA) + [STAMP, attribute(24, b"state")] + [RATES] * (code == COA) + [MAC] * signed + [SPARE]
 
 
 def at_check(code, signed=False, table=TABLE):
@@ -65,18 +67,23 @@ def written(writes):
 
 
 def valued():
-    """Values that are followed: a name, a scheduler where one was written, the slots' timeout, and answer, count and skew."""
+    """Values that are followed: a name, a scheduler where one was written, the slots' fields then, and answer, count and skew."""
     stamped = [STAMP, stamp(CLOCK + 10000)]
     user, timeout = [USER, attribute(1, b"ano")], [TIMEOUT, attribute(27, number(65748))]
-    for name, (old, new), place, wanted in [
-        ("Ben for Ann before slot 0", user, 0, (0, 1, 0)), ("Ben for Ann before slot 2", user, 2, (0, 2, 0)),
-        ("Ben for Ann before Commit", user, 5, (0, 2, 0)),
-        ("a late stamp before slot 0", stamped, 0, (0, 2, 10000)), ("a late stamp before Commit", stamped, 5, (0, 2, 10000)),
-        ("a timeout before Commit", timeout, 5, (0, 2, 0)),
+    both, down_alone = [RATES, vendor(up(0), group(down(2**32 - 1)))], [RATES, vendor(group(group(group(down(7)))), group())]
+    as_asked = {"timeout": TIMEOUT[2:], "down": number(64000), "up": number(128000)}
+    for name, (old, new), place, wanted, fields in [
+        ("Ben for Ann before slot 0", user, 0, (0, 1, 0), {}), ("Ben for Ann before slot 2", user, 2, (0, 2, 0), {}),
+        ("Ben for Ann before Commit", user, 5, (0, 2, 0), {}),
+        ("a late stamp before slot 0", stamped, 0, (0, 2, 10000), {}), ("a late stamp before Commit", stamped, 5, (0, 2, 10000), {}),
+        ("a timeout before Commit", timeout, 5, (0, 2, 0), {"timeout": number(65748)}),
+        ("rates before slot 0", both, 0, (0, 2, 0), {"down": number(2**32 - 1), "up": number(0)}),
+        ("rates before Commit", both, 5, (0, 2, 0), {"down": number(2**32 - 1), "up": number(0)}),
+        ("the down rate alone before Commit", down_alone, 5, (0, 2, 0), {"down": number(7), "up": None}),
     ]:
         world = at_slot(COA, place)
         world.write(1, packet(world).replace(old, new))
-        yield name, world, (new if old == TIMEOUT else TIMEOUT)[2:], wanted
+        yield name, world, as_asked | fields, wanted
 
 
 def half_hashed():
@@ -121,10 +128,13 @@ def other_tables():
 def disturbed():
     """Job 1 awaits Commit, and something is called: its name, the scheduler, and steps to the end and sessions changed."""
     nobody = request(DISCONNECT, [attribute(1, b"nobody"), STAMP])
+    bens = [session(RNG, user=b"ano", id=id) for id in (b"in slot 0", b"in slot 1")]
     for name, call, wanted in [
         ("nothing", lambda d: None, (1, 2)), ("an ACK", lambda d: d.finish(0), (6, 2)), ("a step", lambda d: d.step(0), (1, 2)),
         ("a start", lambda d: d.start(session(RNG, user=b"ann", id=b"new")), (6, 3)), ("an end", lambda d: d.end(4), (6, 1)),
-        ("an end of another", lambda d: d.end(2), (6, 2)), ("a drop", lambda d: d.drop(0), (1, 2)), ("an opening", lambda d: d.open(nobody, CLOCK), (1, 2)),
+        ("an end of another", lambda d: d.end(2), (6, 2)),
+        ("another in the slot of one that ended", lambda d: (d.end(1), *map(d.start, bens)), (6, 1)),
+        ("a drop", lambda d: d.drop(0), (1, 2)), ("an opening", lambda d: d.open(nobody, CLOCK), (1, 2)),
         ("a NAK", lambda d: (d.drop(0), d.open(nobody, CLOCK), d.finish(0)), (1, 2)),
         ("a discard", lambda d: (d.write(0, b"\0"), d.step(0)), (1, 2)), ("a refused start", lambda d: d.start(ANN), (1, 2)),
         ("a refused end", lambda d: d.end(0), (1, 2)), ("a refused step", lambda d: d.step(3), (1, 2)), ("a refused drop", lambda d: d.drop(3), (1, 2)),

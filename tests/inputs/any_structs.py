@@ -5,6 +5,7 @@ from tests.inputs.altered_worlds import ANN, TABLE
 from tests.inputs.packets import CLOCK, CODES, COA, STAMP, TIMEOUT, USER, attribute, flipped, request
 from tests.inputs.scheduler_world import BUFFER, Turn
 from tests.inputs.tables import full, session
+from tests.inputs.vendor_items import down, group, up, vendor
 from tests.models import scheduler_model
 from tests.models.scheduler_calls import JOBS, Drop, End, Open, Start, Step
 from tests.models.scheduler_struct import SIZE, Struct, read
@@ -19,7 +20,8 @@ NUMBERS = [0, 1, 2, 3, 3, 2, 1, 0, 4, 5, 255, 256, 2**32 - 1]  # of jobs and slo
 def own_request(rng, gate):
     """For Ann, to the gate that the struct reads as."""
     code = rng.choice(CODES)
-    return request(code, [attribute(4, number(gate.address)), attribute(32, gate.name), USER, STAMP] + [TIMEOUT] * (code == COA), gate)
+    changes = rng.choice([[TIMEOUT], [vendor(group(down(7)), up(8))], [TIMEOUT, vendor(up(9))]]) if code == COA else []
+    return request(code, [attribute(4, number(gate.address)), attribute(32, gate.name), USER, STAMP, *changes], gate)
 
 
 def any_struct(rng):

@@ -1,5 +1,6 @@
 """Calls that will be acknowledged, to put faults into: the same in every run."""
 from tests.harness.probe import NULL
+from tests.inputs.any_vendors import any_fit, any_without_rate
 from tests.inputs.handler_calls import Call
 from tests.inputs.packets import CLOCK, COA, CODES, MAC, attribute, request, stamp
 from tests.inputs.tables import free, loose, seeded, session
@@ -78,7 +79,8 @@ class Draft:
             attribute(28, number(rng.choice([*TIMEOUTS, rng.randrange(2**32)]))),
             attribute(11, rng.randbytes(rng.choice([1, 8, 31, 32, rng.randint(1, 32)]))),
         ]
-        return rng.sample(sets, rng.randint(1, 3))
+        rates, least = rng.choices([([], 1), ([attribute(26, any_fit(rng))], 0), ([attribute(26, any_without_rate(rng))], 1)], [5, 4, 1])[0]
+        return rng.sample(sets, rng.randint(least, 3)) + rates
 
     def others(self):
         rng = self.rng

@@ -1,11 +1,12 @@
 """Faults to put into a draft, by the number that it is then answered with."""
+from tests.inputs.any_vendors import any_unfit, any_without_rate, of_another_vendor
 from tests.inputs.handler_drafts import ADDRESSES, PORTS, USERS
 from tests.inputs.packets import COA, MAC, attribute, flipped, sign, stamp
 from tests.inputs.tables import OTHER_LENGTHS
 from tests.models.packet_model import SUPPORTED, authenticator
 from tests.models.table_model import number
 
-CRITERIA, CHANGES = [1, 5, 8, 31, 44], [11, 27, 28]
+CRITERIA, CHANGES = [1, 5, 8, 31, 44], [11, 26, 27, 28]
 
 
 def r1(d):
@@ -78,6 +79,11 @@ def unsupported(d):
     d.parts.append(attribute(d.rng.choice(kinds), d.rng.randbytes(d.rng.choice([0, 4, 4, 33]))))
 
 
+def other_vendor(d):
+    """A type 26 of another vendor, alone or beside one of ours."""
+    d.parts.append(attribute(26, of_another_vendor(d.rng)))
+
+
 def service(d):
     d.parts += [attribute(6, d.rng.randbytes(d.rng.choice([0, 1, 4, 4])))] * d.rng.choice([1, 1, 2])
 
@@ -85,9 +91,15 @@ def service(d):
 def invalid(d):
     numbers, texts = [4, 5, 8] + [27, 28] * (d.code == COA), [1, 24, 31, 32, 33, 44] + [11] * (d.code == COA)
     wrong = [attribute(d.rng.choice(numbers), d.rng.randbytes(d.rng.choice([0, 3, 5]))), attribute(d.rng.choice(texts), b"")]
-    twice = [part for part in d.parts if part[0] in {1, 4, 5, 8, 11, 24, 27, 28, 31, 32, 44}]
+    twice = [part for part in d.parts if part[0] in {1, 4, 5, 8, 11, 24, 26, 27, 28, 31, 32, 44}]
     states = [attribute(24, b"first"), attribute(24, b"then"), attribute(24, b"")]
     d.parts += d.rng.choice([[wrong[0]], [wrong[1]], [d.rng.choice(twice)] if twice else states, states])
+
+
+def unfit_rates(d):
+    d.code = COA
+    d.without(26)
+    d.parts.append(attribute(26, any_unfit(d.rng)))
 
 
 def identity(d):
@@ -99,7 +111,10 @@ def identity(d):
 
 
 def missing(d):
-    d.without(*d.rng.choice([CRITERIA, CHANGES] if d.code == COA else [CRITERIA]))
+    """No criterion; or no change, where a type 26 without a rate is none."""
+    gone = d.rng.choice([CRITERIA, CHANGES] if d.code == COA else [CRITERIA])
+    d.without(*gone)
+    d.parts += [attribute(26, any_without_rate(d.rng))] * (gone == CHANGES and d.rng.random() < 0.5)
 
 
 def oversized(d):
@@ -126,5 +141,6 @@ def anybody(d):
 
 FAULTS = [
     (1, r1), (2, r2), (3, r3), (4, r4), (101, d1), (102, d2), (103, d3), (104, d4), (105, d5), (106, no_stamp), (106, stale),
-    (401, unsupported), (405, service), (404, invalid), (403, identity), (402, missing), (506, oversized), (503, nobody), (None, anybody),
+    (401, unsupported), (401, other_vendor), (405, service), (404, invalid), (404, unfit_rates), (403, identity), (402, missing), (506, oversized),
+    (503, nobody), (None, anybody),
 ]

@@ -21,12 +21,13 @@ def session(rng, **given):
 
 
 def loose(rng, fields):
-    """The slot of a session with any bytes where nothing is read: after the texts and at the end."""
+    """The slot of a session with any rates, and with any bytes where nothing is read: after the texts and at the end."""
     content = bytearray(model.record(fields))
     for place, _, high in model.TEXTS.values():
         start = place + 1 + content[place]
         content[start:place + 1 + high] = rng.randbytes(place + 1 + high - start)
-    content[-model.ZEROS:] = rng.randbytes(model.ZEROS)
+    rates = model.RATES["down"]
+    content[rates:] = rng.randbytes(model.SIZE - rates)
     return bytes(content)
 
 

@@ -4,7 +4,9 @@ import tempfile
 from pathlib import Path
 from typing import NamedTuple
 
-from settings import LIMIT, QUIET, SECRET
+from settings import HERE, LIMIT, QUIET, SECRET
+
+DICTIONARY = HERE / "freeradius"  # beside those that come with radclient
 
 
 class Ran(NamedTuple):
@@ -25,7 +27,8 @@ def radclient(port, command, requests, filters=None, *options, secret=SECRET, wa
         if filters is not None:
             files.append(Path(room, "filters"))
             files[1].write_text(text(filters))
-        words = ["radclient", "-x", "-r", "1", "-t", str(wait), "-f", ":".join(map(str, files)), *options, f"127.0.0.1:{port}", command, secret]
+        words = ["radclient", "-x", "-d", str(DICTIONARY), "-r", "1", "-t", str(wait), "-f", ":".join(map(str, files))]
+        words += [*options, f"127.0.0.1:{port}", command, secret]
         ran = subprocess.run(words, stdout=subprocess.PIPE, stderr=subprocess.STDOUT, text=True, errors="replace", timeout=4 * LIMIT)
     return Ran(ran.returncode, ran.stdout)
 

@@ -5,6 +5,7 @@ import time
 from host import Host
 from radclient import radclient, unanswered
 from radclient_list import ALLOWANCE, CASES, ECHO, USER
+from radclient_rates import RATE_CASES
 from settings import WAYS
 
 KINDS = {"coa": "CoA", "disconnect": "Disconnect"}
@@ -28,7 +29,7 @@ def length_for(case, mac):
 
 
 def answered(report, program, port, way):
-    for case in CASES:
+    for case in CASES + RATE_CASES:
         for mac in (False, True):
             with Host(program, port, *WAYS[way]) as host:
                 before = host.table()

@@ -3,10 +3,12 @@ import signal
 import sys
 
 import capture_cases
+import capture_vendors
 import host_cases
 import pyrad_cases
 import radclient_cases
 import scapy_cases
+import scapy_rates
 import writer_cases
 from capture import Capture
 from report import Report
@@ -20,6 +22,7 @@ def clients(report, program, port):
         report.group("radclient", radclient_cases.discarded, program, port, way)
         report.group("scapy", scapy_cases.answered, program, port, way)
         report.group("scapy", scapy_cases.discarded, program, port, way)
+        report.group("scapy", scapy_rates.rates, program, port, way)
         report.group("pyrad", pyrad_cases.causes, program, port, way)
     report.group("radclient", radclient_cases.together, program, port)
     report.group("pyrad", pyrad_cases.meeting, program, port)
@@ -29,6 +32,7 @@ def captured(report, program, file, port):
     with Capture(file, port):
         clients(report, program, port)
     capture_cases.replies(report, file, port)
+    capture_vendors.vendors(report, file, port)
 
 
 def break_off(number, _):

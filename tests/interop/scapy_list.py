@@ -58,7 +58,7 @@ SILENT = [
 ANSWERED = [
     *[(f"type {kind} with no value", lambda kind=kind: empty(kind), 404) for kind in (1, 11, 24, 31, 32, 33, 44)],
     *[(f"type {kind} of 3 bytes", lambda kind=kind: request(COA, USER, attribute(kind, bytes(3)), stamp()), 404) for kind in (4, 5, 8, 27, 28)],
-    *[(f"unsupported type {kind}", lambda kind=kind: request(COA, USER, TIMEOUT, attribute(kind, b"x"), stamp()), 401) for kind in (0, 2, 26, 255)],
+    *[(f"unsupported type {kind}", lambda kind=kind: request(COA, USER, TIMEOUT, attribute(kind, b"x"), stamp()), 401) for kind in (0, 2, 25, 255)],
     ("401 before 405 and 404", lambda: request(DISCONNECT, TIMEOUT, number(6, 17), attribute(1, b""), stamp()), 401),
     ("405 before 404", lambda: request(DISCONNECT, number(6, 17), attribute(1, b""), stamp()), 405),
     ("a stamp of 290 s ago", lambda: request(DISCONNECT, STRANGER, stamp(-290)), 503),

@@ -1,11 +1,12 @@
-"""A whole request in Python, written from document 01's words: refused, discarded, or answered with table and reply."""
+"""A whole request in Python, written from the words of documents 01 and 02: refused, discarded, or answered with table and reply."""
 from typing import NamedTuple, Optional
 
-from tests.models import packet_model, table_model
-from tests.models.packet_model import Gate
+from tests.models import packet_model, table_model, vendor_model
+from tests.models.packet_model import VENDOR_SPECIFIC, Gate
 
 FOUND_BY = {1: "user", 5: "port", 8: "address", 31: "station", 44: "id"}
 SET_BY = {11: "filter", 27: "timeout", 28: "idle"}
+RATE_SET_BY = {vendor_model.DOWN: "down", vendor_model.UP: "up"}  # items of a type 26
 STATE, PROXY_STATE, MESSAGE_AUTHENTICATOR, ERROR_CAUSE = 24, 33, 80, 101
 DISCONNECT = 40
 
@@ -37,12 +38,18 @@ def matching(table, found):
     return [k for k in range(table_model.slot_count(table)) if table_model.matches(table_model.slot(table, k), asked)]
 
 
+def rates_set(found):
+    """The rates that a type 26 names, by their field; none where there is no type 26."""
+    values = [vendor_model.rates(a.value) or {} for a in found if a.kind == VENDOR_SPECIFIC]
+    return {RATE_SET_BY[item]: rate for rates in values for item, rate in rates.items()}
+
+
 def changed_slot(content, code, found):
-    """Ended: zeros. Altered: only the fields of 11, 27 and 28, those that the request has."""
+    """Ended: zeros. Altered: only the fields of 11, 26, 27 and 28, those that the request has."""
     if code == DISCONNECT:
         return bytes(table_model.SIZE)
-    named = {SET_BY[a.kind]: a.value for a in found if a.kind in SET_BY}
-    numbers = {name: int.from_bytes(value, "big") for name, value in named.items() if name in table_model.NUMBERS}
+    named = {SET_BY[a.kind]: a.value for a in found if a.kind in SET_BY} | rates_set(found)
+    numbers = {name: int.from_bytes(value, "big") for name, value in named.items() if name in table_model.PLACES}
     return table_model.altered(content, named | numbers)
 
 

@@ -1,12 +1,15 @@
-"""The packet in Python, from document 01's words alone: signatures, silent discards, NAK causes 1 to 6."""
+"""The packet in Python, from the words of document 01, and of document 02 on type 26: signatures, silent discards, NAK causes 1 to 6."""
 import hashlib
 import hmac
 from typing import NamedTuple
 
+from tests.models import vendor_model
+
 ZEROS = bytes(16)
 CRITERIA = {1, 5, 8, 31, 44}
-CHANGES = {11, 27, 28}
-SUPPORTED = {43: {1, 4, 5, 6, 8, 11, 24, 27, 28, 31, 32, 33, 44, 55, 80}}
+VENDOR_SPECIFIC = 26
+CHANGES = {11, VENDOR_SPECIFIC, 27, 28}
+SUPPORTED = {43: {1, 4, 5, 6, 8, 11, 24, VENDOR_SPECIFIC, 27, 28, 31, 32, 33, 44, 55, 80}}
 SUPPORTED[40] = SUPPORTED[43] - CHANGES
 OF_LENGTH_6 = {4, 5, 8, 27, 28}
 NOT_EMPTY = {1, 11, 24, 31, 32, 33, 44}
@@ -84,21 +87,35 @@ def stamp(found):
     return next(int.from_bytes(a.value, "big") for a in found if a.kind == 55)
 
 
+def is_unsupported(code, a):
+    return a.kind not in SUPPORTED[code] or a.kind == VENDOR_SPECIFIC and vendor_model.is_of_another(a.value)
+
+
+def is_invalid(a):
+    """404's rule on one attribute alone."""
+    if a.kind == VENDOR_SPECIFIC:
+        return vendor_model.rates(a.value) is None
+    return a.kind in OF_LENGTH_6 and len(a.value) != 4 or a.kind in NOT_EMPTY and not a.value
+
+
+def is_change(a):
+    """402's rule: a type 26 exactly if it sets a rate."""
+    return bool(vendor_model.rates(a.value)) if a.kind == VENDOR_SPECIFIC else a.kind in CHANGES
+
+
 def cause(code, found, gate):
     """1 to 6, first that applies; 0 where none does."""
     kinds = [a.kind for a in found]
-    if set(kinds) - SUPPORTED[code]:
+    if any(is_unsupported(code, a) for a in found):
         return 401
     if 6 in kinds:
         return 405
-    if any(kind != 33 and kinds.count(kind) > 1 for kind in kinds):
-        return 404
-    if any(a.kind in OF_LENGTH_6 and len(a.value) != 4 or a.kind in NOT_EMPTY and not a.value for a in found):
+    if any(kind != 33 and kinds.count(kind) > 1 for kind in kinds) or any(map(is_invalid, found)):
         return 404
     own = {4: gate.address.to_bytes(4, "big"), 32: gate.name}
     if any(a.kind in own and a.value != own[a.kind] for a in found):
         return 403
-    if CRITERIA.isdisjoint(kinds) or code == 43 and CHANGES.isdisjoint(kinds):
+    if CRITERIA.isdisjoint(kinds) or code == 43 and not any(map(is_change, found)):
         return 402
     return 506 if any(a.kind == 11 and len(a.value) > 32 for a in found) else 0
 

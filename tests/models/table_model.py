@@ -1,10 +1,12 @@
-"""The session table in Python, written from document 01's words: its slots, what matches, what a change, a start and an end do."""
+"""The session table in Python, written from the words of documents 01 and 02: its slots, what matches, what a change, a start and an end do."""
 
 SIZE = 192
 MARK = bytes([0x5A, 0x4C])
-NUMBERS = {"port": 2, "address": 6, "timeout": 10, "idle": 14}  # each of four bytes, high byte first
+NUMBERS = {"port": 2, "address": 6, "timeout": 10, "idle": 14}  # each of four bytes, high byte first; a start is given these
+RATES = {"down": 181, "up": 185}  # the same; a start writes zeros
+PLACES = NUMBERS | RATES
 TEXTS = {"user": (18, 1, 63), "id": (82, 1, 32), "station": (115, 0, 32), "filter": (148, 0, 32)}  # place of the length, its limits
-ZEROS = 11  # at the end of a slot, zero when written, not read
+ZEROS = 3  # at the end of a slot, zero when a session starts, not read
 MARKS = 64
 
 
@@ -32,8 +34,8 @@ def live(content):
 
 
 def field(content, name):
-    if name in NUMBERS:
-        return content[NUMBERS[name]:NUMBERS[name] + 4]
+    if name in PLACES:
+        return content[PLACES[name]:PLACES[name] + 4]
     place = TEXTS[name][0]
     return content[place + 1:place + 1 + content[place]]
 
@@ -56,8 +58,8 @@ def text_field(name, value):
 def altered(content, settings):
     """Only the fields that are named."""
     for name, value in settings.items():
-        place = NUMBERS[name] if name in NUMBERS else TEXTS[name][0]
-        written = number(value) if name in NUMBERS else text_field(name, value)
+        place = PLACES[name] if name in PLACES else TEXTS[name][0]
+        written = number(value) if name in PLACES else text_field(name, value)
         content = content[:place] + written + content[place + len(written):]
     return content
 
@@ -80,7 +82,7 @@ def fits(session):
 def record(session):
     """All 192 bytes of a session's slot, its fields in the layout's order."""
     numbers = b"".join(number(session[name]) for name in NUMBERS)
-    return MARK + numbers + b"".join(text_field(name, session[name]) for name in TEXTS) + bytes(ZEROS)
+    return MARK + numbers + b"".join(text_field(name, session[name]) for name in TEXTS) + number(0) * len(RATES) + bytes(ZEROS)
 
 
 def start(table, session):

@@ -10,7 +10,7 @@ from tests.models.scheduler_calls import Step
 from tests.models.scheduler_model import Job
 from tests.self_tests.wrong_schedulers import WRONG
 
-LISTS, LENGTH = 40, 250
+LISTS, LENGTH = 60, 250
 OFTEN = 5
 
 
@@ -31,7 +31,7 @@ def recorded(list):
 
 
 def wrong_schedulers(probe, tally):
-    lists = [(world.gate, world.turns) for world in directed()] + [recorded(kind(k)) for k in range(LISTS // 4) for kind in (Seeded, Altered)]
+    lists = [(world.gate, world.turns) for world in directed()] + [recorded(kind(k)) for k in range(LISTS // 6) for kind in (Seeded, Altered)]
     tally.same(is_found_out(lists), False, "the right scheduler is found out")
     for name, wrong in WRONG.items():
         with mock.patch.multiple(scheduler_model, **wrong):

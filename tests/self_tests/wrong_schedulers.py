@@ -91,6 +91,21 @@ def commits_dead_slots(job, p, gate, table, reply):
         return OURS["committed"](job, p, gate, table, reply)
 
 
+def rates_of_the_opening():
+    """Writes the rates that a packet had when it was opened."""
+    kept, named = {}, handle_model.rates_set
+
+    def opened(scheduler, table, store, asked):
+        kept[asked.packet[4:20]] = asked.packet
+        return OURS["opened"](scheduler, table, store, asked)
+
+    def committed(job, p, gate, table, reply):
+        first = packet_model.attributes(kept.get(p[4:20], p), job.length)
+        with mock.patch.object(handle_model, "rates_set", lambda found: named(first)):
+            return OURS["committed"](job, p, gate, table, reply)
+    return {"opened": opened, "committed": committed}
+
+
 def keeps_marks(scheduler):
     return scheduler._replace(jobs=tuple(job._replace(place=0) if job.kind == MATCH else job for job in scheduler.jobs))
 
@@ -144,6 +159,8 @@ WRONG = {  # what is put in the place of ours
     "does not compare the kept Length": {"same_form": any_length},
     "has no eye for type 55 again": {"same_sense": stamps_unseen},
     "has no eye for type 80's length again": {"same_sense": but(80)},
+    "has no eye for type 26 again": {"same_sense": but(26)},
+    "commits the rates of the opening": rates_of_the_opening(),
     "does not judge causes again": {"same_sense": causes_unseen},
     **{f"does not judge {number} again": {"same_sense": without_cause(number)} for number in (401, 405, 404, 403, 402, 506)},
     "works D4 out anew": {"is_signed": signed_anew},

@@ -2,6 +2,7 @@
 and its stdout, as the second implementation has it."""
 from tests import ROOT
 from tests.inputs.packets import CLOCK, COA, DISCONNECT, MAC, attribute, flipped, request, stamp
+from tests.inputs.vendor_items import down, nested, up, vendor
 from tests.models import handle_model, table_model
 from tests.models.packet_model import Gate
 from tests.models.table_model import number
@@ -41,6 +42,7 @@ GROUPS = {
         ("401", asking(DISCONNECT, ANN, TIMEOUT)),
         ("405", asking(COA, ANN, attribute(6, number(17)), TIMEOUT, STATE)),
         ("404", asking(DISCONNECT, ANN, STATE, attribute(24, b"t"), PROXY)),
+        ("404, a fifth group", asking(COA, ANN, vendor(nested(down(), 5)))),
         ("403", asking(COA, ANN, TIMEOUT, attribute(32, b"h"), MAC)),
         ("402", asking(COA, ANN, STATE, PROXY, attribute(33, b"\x42"))),
         ("506", asking(COA, ANN, attribute(11, b"0123456789abcdef0123456789abcdefg"))),
@@ -51,6 +53,7 @@ GROUPS = {
         ("ACK Disconnect of two", asking(DISCONNECT, BOTH, MAC)),
         ("ACK CoA", asking(COA, ANN, TIMEOUT, STATE, PROXY, attribute(33, b"\x42"), MAC)),
         ("ACK CoA of two", asking(COA, BOTH, IDLE, attribute(11, b"night")) + b"padding"),
+        ("ACK CoA, both rates", asking(COA, ANN, vendor(nested(up(), 4), down()))),
     ],
 }
 

@@ -3,6 +3,7 @@ from typing import NamedTuple
 
 from tests import ROOT
 from tests.inputs.packets import CLOCK, COA, DISCONNECT, attribute, stamp
+from tests.inputs.vendor_items import down, group, vendor
 from tests.models import exchange_model, handle_model, table_model
 from tests.models.packet_model import Gate
 from tests.models.table_model import number
@@ -48,6 +49,7 @@ REQUESTS = [
     Asked("A request of five minutes and a second ago.", DISCONNECT, 4, listed(USER_12, head=[stamp(CLOCK - 301)])),
     Asked("A request for room 11, altered on its way to ask for room 12.", DISCONNECT, 5, FORGED, there=FROM_11_TO_12),
     Asked("A request whose answer is altered on its way back, from NAK to ACK.", DISCONNECT, 6, listed(USER_9), back=FROM_NAK_TO_ACK),
+    Asked("Both devices of room 12 are slowed to a down rate of 64,000.", COA, 7, listed(USER_12, vendor(group(down(64000)))), 1),
 ]
 
 

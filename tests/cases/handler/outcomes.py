@@ -2,6 +2,7 @@
 from collections import Counter
 
 from tests.inputs.packets import COA, DISCONNECT
+from tests.models import vendor_model
 from tests.models.packet_model import attributes
 from tests.models.table_model import field, live, slot, slot_count
 
@@ -12,7 +13,10 @@ OUTCOMES |= {"D2": ("other code",), "506": ("CoA",)}
 MORE = {name: BOTH for name in (
     "ACK: 1 session", "ACK: 2 to 9", "ACK: 10 or more", "ACK: a table of 1 slot", "ACK: a table of 64 slots", "ACK: padding",
     "ACK: names share 40 bytes", "reply with State", "reply with Proxy-States", "reply with type 80", "reply with all three", "skew below 0", "skew above 0")}
-MORE |= {name: ("CoA",) for name in ("ACK: timeout over 16 bits", "ACK: Filter-Id of 32", "ACK: Filter-Id alone", "ACK: all three changes")}
+MORE |= {name: ("CoA",) for name in (
+    "ACK: timeout over 16 bits", "ACK: Filter-Id of 32", "ACK: Filter-Id alone", "ACK: 11, 27 and 28", "ACK: type 26 alone", "ACK: down rate",
+    "ACK: up rate", "ACK: both rates", "ACK: rate over 16 bits", "ACK: a type 26 without a rate", "ACK: 11, 26, 27 and 28", "401: a type 26",
+    "402: a type 26 without a rate", "404: a type 26")}
 OFTEN = 20  # each of these comes up so often at least
 
 
@@ -42,8 +46,21 @@ def more(call, told):
         yield "ACK: padding" if len(call.packet) > length else None
         yield "ACK: timeout over 16 bits" if any(a.kind in (27, 28) and a.value >= b"\0\1" for a in found) else None
         yield "ACK: Filter-Id of 32" if any(a.kind == 11 and len(a.value) == 32 for a in found) else None
-        changes = {11, 27, 28}.intersection(kinds)
-        yield "ACK: Filter-Id alone" if changes == {11} else "ACK: all three changes" if len(changes) == 3 else None
+        changes = tuple(sorted({11, 26, 27, 28}.intersection(kinds)))
+        yield {(11,): "ACK: Filter-Id alone", (26,): "ACK: type 26 alone", (11, 27, 28): "ACK: 11, 27 and 28",
+               (11, 26, 27, 28): "ACK: 11, 26, 27 and 28"}.get(changes)
+    yield from [name for a in found if a.kind == 26 for name in of_rates(told.answer, a.value)]
+
+
+def of_rates(answer, value):
+    """What is to be seen of a type 26 in a request that was answered so."""
+    rates = vendor_model.rates(value)
+    if answer == 0:
+        yield ["ACK: a type 26 without a rate", "ACK: up rate" if 2 in rates else "ACK: down rate", "ACK: both rates"][len(rates)]
+        yield "ACK: rate over 16 bits" if any(rate >= b"\0\1" for rate in rates.values()) else None
+    yield "401: a type 26" if answer == 401 and vendor_model.is_of_another(value) else None
+    yield "402: a type 26 without a rate" if answer == 402 and rates == {} else None
+    yield "404: a type 26" if answer == 404 and rates is None else None
 
 
 class Outcomes:
@@ -58,9 +75,9 @@ class Outcomes:
 
     def judge(self, tally):
         """Prints the counts; one test for each that is to come up."""
-        print(f"   {'how calls came out':28}{'Disconnect':>12}{'CoA':>8}{'other code':>12}")
+        print(f"   {'how calls came out':32}{'Disconnect':>12}{'CoA':>8}{'other code':>12}")
         for name, codes in {**OUTCOMES, **MORE}.items():
             counts = [self.seen[name, code] for code in (*BOTH, "other code")]
-            print(f"   {name:28}{counts[0]:12,}{counts[1]:8,}{counts[2]:12,}")
+            print(f"   {name:32}{counts[0]:12,}{counts[1]:8,}{counts[2]:12,}")
             for code in codes:
                 tally.same(self.seen[name, code] >= OFTEN, True, name, "in", code, "came up", self.seen[name, code], "times")

@@ -12,7 +12,7 @@ from tests.inputs.tables import loose, seeded, session
 RNG = seeded("replies")
 TABLE = loose(RNG, session(RNG, user=b"ann"))
 FAULTS = {
-    0: [], 401: [attribute(26, b"v")], 405: [attribute(6, b"\0\0\0\x11")], 404: [attribute(32, b"")], 403: [attribute(4, bytes(4))],
+    0: [], 401: [attribute(2, b"v")], 405: [attribute(6, b"\0\0\0\x11")], 404: [attribute(32, b"")], 403: [attribute(4, bytes(4))],
     402: None, 506: [attribute(11, bytes(33))], 503: [attribute(44, b"nobody")],
 }
 STATES = [[], [b"s"], [bytes(253)]]

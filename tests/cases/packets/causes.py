@@ -5,19 +5,21 @@ from tests.compare.verdicts import judged
 from tests.inputs.byte_runs import sample
 from tests.inputs.packets import CLOCK, COA, CODES, DISCONNECT, GATE, MAC, STAMP, TIMEOUT, USER
 from tests.inputs.packets import Gate, attribute, good, request, stamp
+from tests.inputs.vendor_items import down, vendor
+from tests.inputs.vendor_requests import every_order
 
-# Document 01's lists once more, so that an error in the model's shows.
-CRITERIA, CHANGES = {1, 5, 8, 31, 44}, {11, 27, 28}
+# Document 01's lists once more, with document 02's type 26, so that an error in the model's shows.
+CRITERIA, CHANGES = {1, 5, 8, 31, 44}, {11, 26, 27, 28}
 NUMBERS, TEXTS = {4, 5, 8, 27, 28}, {1, 11, 24, 31, 32, 33, 44}
 SUPPORTED = {
     DISCONNECT: {1, 4, 5, 6, 8, 24, 31, 32, 33, 44, 55, 80},
-    COA: {1, 4, 5, 6, 8, 11, 24, 27, 28, 31, 32, 33, 44, 55, 80},
+    COA: {1, 4, 5, 6, 8, 11, 24, 26, 27, 28, 31, 32, 33, 44, 55, 80},
 }
-OWN = {4: GATE.address.to_bytes(4, "big"), 32: GATE.name}
+OWN = {4: GATE.address.to_bytes(4, "big"), 26: vendor(down())[2:], 32: GATE.name}
 
 
 def fitting(kind):
-    """An attribute of this type that no length rule forbids."""
+    """An attribute of this type that no rule forbids for its length or value; a change where it can be one."""
     return MAC if kind == 80 else STAMP if kind == 55 else attribute(kind, OWN.get(kind, bytes(4)))
 
 
@@ -39,7 +41,7 @@ def lengths(probe, tally):
             others = [part for part in good(code) if part[0] != kind]
             for size in range(254):
                 one = attribute(kind, sample(size, size))
-                bad = size != 4 if kind in NUMBERS else kind in TEXTS and size == 0
+                bad = size != 4 if kind in NUMBERS else size < 4 if kind == 26 else kind in TEXTS and size == 0
                 for parts in [[one] + others, others + [one]]:
                     number = 404 if bad else None
                     judged(probe, tally, request(code, parts), "code", code, "type", kind, "value of", size, number=number)
@@ -108,7 +110,7 @@ def filters(probe, tally):
 
 
 FAULTS = [
-    (401, [attribute(26, b"v")]),
+    (401, [attribute(2, b"v")]),
     (405, [attribute(6, bytes(4))]),
     (404, [attribute(24, b"s")] * 2),
     (404, [attribute(31, b"")]),
@@ -145,6 +147,12 @@ def together(probe, tally):
             judged(probe, tally, request(code, parts + [b"\x01\x01"]), "causes and D3", causes, number=103)
 
 
+def rates(probe, tally):
+    """A type 26 of every kind, beside every change and every other cause."""
+    for case, call, answer in every_order():
+        judged(probe, tally, call.packet, *case, number=answer)
+
+
 GROUPS = [
     ("401: every type in both codes", all_types),
     ("404: every length of every type", lengths),
@@ -153,4 +161,5 @@ GROUPS = [
     ("402: criteria and changes", missing),
     ("506: Filter-Id of 32 and 33 bytes", filters),
     ("several causes and discards at once", together),
+    ("401, 402, 404: type 26 beside every change and every cause", rates),
 ]

@@ -114,7 +114,7 @@ def d5(probe, tally):
             judged(probe, tally, request(code, both), "twice, the second right, after", where, number=105)
             judged(probe, tally, request(code, both + [MAC]), "three times", number=105)
         judged(probe, tally, request(code, [MAC]), "alone", number=106)
-        judged(probe, tally, request(code, [MAC, attribute(26, b"")]), "right, an unsupported type", number=106)
+        judged(probe, tally, request(code, [MAC, attribute(2, b"")]), "right, an unsupported type", number=106)
 
 
 GROUPS = [

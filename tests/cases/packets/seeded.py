@@ -3,6 +3,7 @@ from collections import Counter
 from random import Random
 
 from tests.compare.verdicts import judged
+from tests.inputs.any_vendors import any_value
 from tests.inputs.packets import CLOCK, GATE, MAC, STAMP, TIMEOUT, USER, attribute, flipped, put_macs, sign, stamp, unsigned
 
 ROUNDS = 12000
@@ -21,6 +22,8 @@ def any_attribute(random):
         return random.choice(COMMON)
     if choice < 0.6:
         return stamp(CLOCK + random.randint(-310, 310))
+    if choice < 0.64:
+        return attribute(26, any_value(random))
     kind = random.choice(KINDS) if choice < 0.98 else random.randrange(256)
     return attribute(kind, random.randbytes(random.choice([0, 1, 3, 4, 4, 4, 5, 16, 32, 33, random.randrange(254)])))
 

@@ -58,7 +58,7 @@ def placed(probe, tally):
 
 def before_causes(probe, tally):
     """A stale or missing stamp is D6 whatever cause applies; a good one tells the skew of the NAK."""
-    causes = {401: attribute(26, b""), 405: attribute(6, bytes(4)), 404: attribute(24, b""), 403: attribute(4, bytes(4))}
+    causes = {401: attribute(2, b""), 405: attribute(6, bytes(4)), 404: attribute(24, b""), 403: attribute(4, bytes(4))}
     for code in CODES:
         for number, fault in causes.items():
             for off in NEAR:

@@ -1,4 +1,6 @@
 """The stepwise model on altered stores and tables: what document 01 says of each, clause by clause."""
+from itertools import product
+
 from tests.inputs.alterations import CLAUSES, FOLLOWED, FORM
 from tests.inputs.altered_worlds import RNG, TABLE, half_hashed, other_tables, packet, stages, valued, written
 from tests.inputs.packets import COA, GATE
@@ -44,12 +46,15 @@ def followed(probe, tally):
 
 
 def values(probe, tally):
-    for name, world, timeout, wanted in valued():
+    """A field that is named is as the store has it then; one that is not (None) as it was."""
+    for name, world, fields, wanted in valued():
         _, told = world.finish(1)
         tally.same((told.answer, told.count, told.skew), wanted, name)
         changed = [k for k in range(5) if table_model.slot(world.table, k) != table_model.slot(TABLE, k)]
-        given = {table_model.field(table_model.slot(world.table, k), "timeout") for k in changed}
-        tally.same((len(changed), given), (wanted[1], {timeout}), name, "in the table")
+        tally.same(len(changed), wanted[1], name, "in the table")
+        for k, (field, value) in product(changed, fields.items()):
+            before, after = [table_model.field(table_model.slot(table, k), field) for table in (TABLE, world.table)]
+            tally.same(after, before if value is None else value, name, "in slot", k, field)
 
 
 def hashing(probe, tally):

@@ -6,8 +6,8 @@ from tests.inputs.tables import OTHER_LENGTHS, free, full, loose, seeded, sessio
 from tests.models import table_model as model
 
 BEFORE = 0xEEEEEEEE  # the count before the call
-NAMES = ["timeout", "idle", "filter"]
-SUBSETS = [names for size in range(4) for names in itertools.combinations(NAMES, size)]
+NAMES = ["timeout", "idle", "filter", "down", "up"]
+SUBSETS = [names for size in range(len(NAMES) + 1) for names in itertools.combinations(NAMES, size)]
 END = None
 ALL = b"\x01" * 64
 
@@ -20,7 +20,10 @@ def arguments(settings, flag=1):
     numbers = [0 if settings is not None else flag]
     for name in ["timeout", "idle"]:
         numbers += [flag if name in named else 0, named.get(name, 0xDDDDDDDD)]
-    return held, [*numbers, flag if "filter" in named else 0, 2, len(text)]
+    numbers += [flag if "filter" in named else 0, 2, len(text)]
+    for name in ["down", "up"]:
+        numbers += [flag if name in named else 0, named.get(name, 0xDDDDDDDD)]
+    return held, numbers
 
 
 def change(probe, tally, run, marks, settings, *case, flag=1):
@@ -49,7 +52,7 @@ def each_slot(probe, tally):
     run = full(seeded("each"), 64)
     for k in range(64):
         one = bytes(64)[:k] + b"\x01" + bytes(63 - k)
-        for settings in [END, {}, {"timeout": 65748}, {"idle": 65748}, {"filter": b"rule"}]:
+        for settings in [END, {}, {"timeout": 65748}, {"idle": 65748}, {"filter": b"rule"}, {"down": 65748}, {"up": 65748}]:
             change(probe, tally, run, one, settings, "only slot", k, settings)
             change(probe, tally, run, bytes(1 - mark for mark in one), settings, "all but slot", k, settings)
 
@@ -75,12 +78,13 @@ def free_slots(probe, tally):
 def all_bits(probe, tally):
     rng = seeded("bits")
     run = loose(rng, session(rng)) + loose(rng, session(rng))
-    for name in ["timeout", "idle"]:
+    for name in ["timeout", "idle", "down", "up"]:
         for value in [0, 212, 65535, 65536, 65748, 2**32 - 1, *[1 << bit for bit in range(32)], *[2**32 - 1 - (1 << bit) for bit in range(32)]]:
             change(probe, tally, run, ALL, {name: value}, name, value)
-    held, numbers = arguments({"timeout": 65748})
-    after = probe("table_change", run, held, ALL, *numbers, cell(BEFORE))[1]
-    tally.same(after[10:14], b"\x00\x01\x00\xd4", "65,748 written")
+    for name, place in [("timeout", 10), ("down", 181), ("up", 185)]:
+        held, numbers = arguments({name: 65748})
+        after = probe("table_change", run, held, ALL, *numbers, cell(BEFORE))[1]
+        tally.same(after[place:place + 4], b"\x00\x01\x00\xd4", "65,748 written as", name)
 
 
 def filters(probe, tally):
@@ -101,7 +105,7 @@ def long_filters(probe, tally):
         for at in [0, 1, 5, 31, 299, 300, 301, 2**63, 2**64 - 1]:
             for size in [0, 1, 32, 33, 253, 2**63, 2**64 - 1]:
                 changed, after = model.change_marked(run, ALL, {"filter": held[at:at + size][:32]})
-                got = probe("table_change", run, held, ALL, 0, 0, 9, 0, 9, 1, at, size, cell(BEFORE))
+                got = probe("table_change", run, held, ALL, 0, 0, 9, 0, 9, 1, at, size, 0, 9, 0, 9, cell(BEFORE))
                 tally.same(got, (0, after, held, ALL, cell(changed)), "of", length, "at", at, "size", size)
 
 
@@ -132,7 +136,7 @@ GROUPS = [
     ("change: each slot alone, and all but one", each_slot),
     ("change: all 256 values of a mark", mark_values),
     ("change: marks on slots free or not there", free_slots),
-    ("change: all 32 bits of the timeouts", all_bits),
+    ("change: all 32 bits of the timeouts and the rates", all_bits),
     ("change: Filter-Ids of every length", filters),
     ("change: Filter-Ids too long or cut by the request's end", long_filters),
     ("change: flags", flags),
