@@ -5,6 +5,7 @@ ghost use Prim.Native.Nat.{_+_};
 ghost use lib.Dec.{leb};
 ghost use lib.ListN.{length, replicate};
 ghost use Rattle.octet_numbers.specs.Runs.{write, equalBytes};
+ghost use Rattle.octet_runs.specs.Compared.{sameText, pairsCompared};
 ghost use Rattle.probe.specs.Probe.{answer, written, inside, digestRoom};
 
 // Whether n bytes from place at on lie in len bytes.
@@ -28,7 +29,21 @@ pub extern "C" fn probe_equal(a: &[u8], b: &[u8]) -> u32
     0
 }
 
-// The same for 16 bytes each, looking at all of them; 2 where one has not 16 bytes.
+// The same, and the byte pairs compared.
+#[no_mangle]
+pub extern "C" fn probe_compare(a: &[u8], b: &[u8], pairs: &mut usize) -> u32
+    ensures { λ r. ⌜ r ≡ cond (sameText (now (a .entry)) (now (b .entry))) 1 0 ⌝ }
+    ensures { λ _. ⌜ now (pairs .exit) ≡ pairsCompared (now (a .entry)) (now (b .entry)) ⌝ }
+{
+    let c = octet_runs::compare(a, b);
+    *pairs = c.pairs;
+    if c.same {
+        return 1;
+    }
+    0
+}
+
+// Whether 16 bytes each are the same, looking at all of them: 1 or 0; 2 where one has not 16 bytes.
 #[no_mangle]
 pub extern "C" fn probe_equal16(a: &[u8], b: &[u8]) -> u32
     ensures { λ r. ⌜ r ≡ cond (digestRoom (now (a .entry)) && digestRoom (now (b .entry))) (cond (equalBytes (now (a .entry)) (now (b .entry))) 1 0) 2 ⌝ }

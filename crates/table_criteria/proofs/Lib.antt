@@ -1,3 +1,5 @@
 pub mod Fields
+pub mod Inside
+pub mod Passing
+pub mod Sieves
 pub mod Walk
-pub mod Whole

@@ -14,7 +14,7 @@ use Rattle.table_slots.specs.Slot.{live, slot}
 use Rattle.table_slots.proofs.Live.{passed, refused, free-mark}
 use Rattle.table_criteria.specs.declared.Criteria.{Criteria}
 use Rattle.table_criteria.specs.declared.Criterion.{Criterion}
-use Rattle.table_criteria.specs.Meets.{inside, all, listed, meets, matches, matchesAt}
+use Rattle.table_criteria.specs.Meets.{all, listed, meets, matches, matchesAt}
 
 -- an array's length, as a function is told of it
 pub same-long : {B : Type 0} (f : Criterion → B) (l : List Criterion) (n : ℕ) → length (map f l) ≡ n → length l ≡ n
@@ -59,31 +59,9 @@ module _
     pub walk-next : not r ≡ false → b ≡ live s && all (meets area s) (drop (i + 1) (listed c))
     walk-next g = left ∙ rw (step (meets area s) c i d (rw (← long) h), passed r _ e g)
 
--- ---- the walk that asks whether every value lies in the area
-
-module _
-    (area : List ℕ) (c : Criteria) (i n : ℕ)
-    (left : all (inside area) (listed c) ≡ all (inside area) (drop i (listed c))) (long : n ≡ length (listed c)) where
-  pub inside-ends : n ≤ i → true ≡ all (inside area) (listed c)
-  inside-ends h = sym (left ∙ rw (drop-of-length-le (listed c) {i = i} (rw (← long) h)))
-
-  module _ (r : Bool) (d : Criterion) (e : r ≡ inside area (getD (c .list) i d)) (h : i < n) where
-    pub inside-fails : not r ≡ true → false ≡ all (inside area) (listed c)
-    inside-fails g = sym (left ∙ rw (step (inside area) c i d (rw (← long) h), refused r _ e g))
-
-    pub inside-next : not r ≡ false → all (inside area) (listed c) ≡ all (inside area) (drop (i + 1) (listed c))
-    inside-next g = left ∙ rw (step (inside area) c i d (rw (← long) h), passed r _ e g)
-
-all-at : (f : Criterion → Bool) (l : List Criterion) (i : ℕ) (d : Criterion) → i < length l → all f l ≡ true → f (getD l i d) ≡ true
-all-at f [] i d h e = absurd (omega arith)
-all-at f (x ∷ l) zero d h e = and-both (f x) (all f l) e .0
-all-at f (x ∷ l) (suc i) d h e = all-at f l i d (omega arith) (and-both (f x) (all f l) e .1)
-
--- what it found of criterion i
-pub inside-at : (area : List ℕ) (c : Criteria) (i n : ℕ) (d : Criterion) (r : Bool) → r ≡ all (inside area) (listed c) → n ≡ length (listed c)
-    → i < n → r ≡ true
-    → inside area (getD (c .list) i d) ≡ true
-inside-at area c i n d r e long h g =
-    let l : i < length (listed c) = rw (← long) h in
-    let m : i < c .count = omega (arith, length-take (c .count) (c .list)) in
-    rw (getD-take (c .count) (c .list) i d m) at (all-at (inside area) (listed c) i d l (sym e ∙ g))
+-- all are met: so is the first
+pub first-met : (f : Criterion → Bool) (c : Criteria) (n : ℕ) (d : Criterion) → n ≡ length (listed c) → (n ≡ 0 → ⊥) → all f (listed c) ≡ true
+    → f (getD (c .list) 0 d) ≡ true
+first-met f c n d e z h =
+    let l : 0 < length (listed c) = rw (← e) (omega arith) in
+    and-both (f (getD (c .list) 0 d)) (all f (drop (0 + 1) (listed c))) (sym (step f c 0 d l) ∙ h) .0

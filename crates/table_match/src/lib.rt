@@ -5,6 +5,7 @@ ghost use Rattle.table_slots.specs.Marks.{marksAfter};
 ghost use Rattle.table_criteria.specs.Meets.{listed, matchesAt};
 use table_criteria::Criteria;
 use table_criteria::compare;
+use table_criteria::first;
 
 // Whether slot k is live and meets every criterion. The lengths are looked at last: most slots fail before.
 pub fn match_slot(t: &[u8], k: usize, area: &[u8], c: Criteria) -> bool
@@ -26,13 +27,13 @@ pub fn match_slot(t: &[u8], k: usize, area: &[u8], c: Criteria) -> bool
     table_slots::is_live(s)
 }
 
-// The marks of all slots: 1 for each that is live and meets every criterion.
+// The marks of all slots: 1 for each that is live and meets every criterion. The sieve, made once, spares most others the comparison.
 pub fn mark_all(t: &[u8], area: &[u8], c: Criteria) -> [u8; 64]
     ensures { λ r. ⌜ r ≡ marksAfter (matchesAt (now (area .entry)) (listed c) (now (t .entry))) (slotCount (now (t .entry))) ⌝ }
 {
     let slots = table_slots::slot_count(t);
     let n = compare::number_of(c);
-    let known = compare::all_inside(area, c, n);
+    let sieve = first::sieve_of(area, c, n);
     let mut marks = [0u8; 64];
     let mut k = 0;
     while k < slots {
@@ -41,10 +42,13 @@ pub fn mark_all(t: &[u8], area: &[u8], c: Criteria) -> [u8; 64]
             if !table_slots::has_mark(s) {
                 break 'slot;
             }
+            if !first::passes(s, sieve) {
+                break 'slot;
+            }
             let mut i = 0;
             while i < n {
-                let one = c.list[i];
-                if !compare::meets_known(area, s, one, known) {
+                let asked = c.list[i];
+                if !compare::meets_one(area, s, asked) {
                     break 'slot;
                 }
                 i += 1;

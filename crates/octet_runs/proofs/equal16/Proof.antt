@@ -4,7 +4,7 @@ use borrow.Author.Needs.{needs}
 use lib.Dec.{eqb}
 use mathlib.Core.Path.{_≡_}
 use Prim.Native.Nat.{_≤_, _-_}
-use Rattle.octet_runs.proofs.Comparing.{gather-none, gather-next, gather-all}
+use Rattle.octet_runs.proofs.Gathering.{gather-none, gather-next, gather-all}
 use Rattle.octet_numbers.specs.Runs.{part, equalBytes}
 use Rattle.octet_runs.proofs.equal16.Statement.{statement}
 use Rattle.octet_runs.proofs.equal16.Tie as tie
