@@ -8,8 +8,8 @@ SLOTS = [1, 2, 4, 8, 16, 32, 48, 64]
 BY_LENGTH = {"short": "3-byte Proxy-States, echoed", "long": "255-byte Proxy-States, echoed"}
 BY_SLOTS = {"plain": "live, another User-Name, as long", "length": "live, User-Name of another length", "lone": "free"}
 MARK = 7  # what the commit takes for the look at a slot's mark
-# goal and decision of one slot more: 30 for the walk, 12 where the slot is free, and its mark
-SLOT_GOALS = {"plain": (30 + MARK, 22), "length": (30 + MARK, None), "lone": (12 + MARK, None)}
+# the goal of one slot more: 30 for the walk, 12 where the slot is free, and its mark
+SLOT_GOALS = {"plain": 30 + MARK, "length": 30 + MARK, "lone": 12 + MARK}
 TWICE = 2.1  # the most that twice as much may take
 
 
@@ -44,5 +44,4 @@ def ratios():
         yield Row(f"64 over 32 slots: {title}", twice(kind, SLOTS), goal=TWICE)
     for kind, title in BY_SLOTS.items():
         each = (callgrind.handled(kind, 64) - callgrind.handled(kind, 32)) / 32
-        goal, decision = SLOT_GOALS[kind]
-        yield Row(f"one slot more: {title}", each, goal=goal, decision=decision)
+        yield Row(f"one slot more: {title}", each, goal=SLOT_GOALS[kind])

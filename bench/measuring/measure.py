@@ -17,6 +17,7 @@ def table(expected):
     all_rows = []
     for title, part in [
         ("whole requests through fbk_handle, in instructions", works.requests()),
+        ("long names through fbk_handle, in instructions", works.names()),
         ("steps of a job through fbk_step_lent, in instructions", works.steps()),
         ("growth: what twice as much takes, what a slot more takes", growth.ratios()),
         ("code by `size`, stack by painting it before a call, in bytes", [*memory.code(), *memory.stack()]),

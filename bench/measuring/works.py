@@ -1,4 +1,4 @@
-"""Whole requests, and the steps of a job, through C, beside what MD5 and the peers take."""
+"""Whole requests, walks over long names, and the steps of a job, through C, beside what MD5 and the peers take."""
 import callgrind
 from rows import Row
 
@@ -30,6 +30,11 @@ REQUESTS = [
     ("timeout", 64, "CoA, Session-Timeout, 75 bytes, 64 slots, all live", TIMEOUT, "", None, None),
     ("rates", 64, "CoA, both rates in four groups, 95 bytes", RATES, "", None, None),
 ]
+# kind, title, and what the walk over its 63 other slots may take: half of the 9,450 that it took when names were compared from their front
+LONG_NAMES = [
+    ("last", "64 live, User-Names that share forty of 41 bytes", 4725),
+    ("same", "64 live, one User-Name of 63 bytes", None),
+]
 
 
 def blocks(size):
@@ -44,6 +49,14 @@ def requests():
         openssl = sum(callgrind.digested("openssl", "MD5", message) for message in messages)
         yield Row(title, callgrind.handled(kind, size), f"handle-{kind}-{size}", goal, decision, floor, openssl, peers)
     yield Row("rates in four groups, beyond Session-Timeout", callgrind.handled("rates", 64) - callgrind.handled("timeout", 64), goal=1200)
+
+
+def names():
+    """A request that names one of 64 sessions with long names, and the walk alone: what 63 more slots take."""
+    for kind, title, goal in LONG_NAMES:
+        whole = callgrind.handled(kind, 64)
+        yield Row(title, whole, f"handle-{kind}-64")
+        yield Row(f"{title}: walk", whole - callgrind.handled(kind, 1), f"walk-{kind}", goal)
 
 
 def steps():

@@ -23,7 +23,8 @@ static const struct kind {
     {"length", DISCONNECT, 0, OTHER_LENGTH, 0, 0, 1, 34}, {"mac", WITH_MAC, 0, OTHER_TEXT, 0, 0, 1, 52},
     {"forged", WITH_MAC, 0, OTHER_TEXT, 1, 104, 0, 0},    {"short", DISCONNECT, 3, OTHER_TEXT, 0, 402, 0, 0},
     {"long", DISCONNECT, 255, OTHER_TEXT, 0, 402, 0, 0},  {"timeout", TIMEOUT, 0, OTHER_TEXT, 0, 0, 1, 20},
-    {"rates", RATES, 0, OTHER_TEXT, 0, 0, 1, 20},
+    {"rates", RATES, 0, OTHER_TEXT, 0, 0, 1, 20},         {"last", DISCONNECT, 0, OTHER_LAST, 0, 0, 1, 34},
+    {"same", DISCONNECT, 0, SAME_USER, 0, 0, 1, 34},
 };
 
 static void make(const struct kind *kind, size_t size)
@@ -35,7 +36,7 @@ static void make(const struct kind *kind, size_t size)
         if (kind->request == TIMEOUT || kind->request == RATES)
             make_coa(kind->request == RATES);
         else
-            make_disconnect(kind->request == WITH_MAC);
+            make_disconnect(kind->request == WITH_MAC, named_user(kind->others));
     }
     packet[4] ^= kind->flip;
     fill_table(fresh, slots, kind->others);

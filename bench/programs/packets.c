@@ -37,19 +37,19 @@ static void sign(void)
 }
 
 /* What each request here begins with: stamp, gate, session. */
-static void begin_request(uint8_t code)
+static void begin_request(uint8_t code, const char *user)
 {
     begin(code);
     put_stamp();
     put(4, "\xC0\0\2\7", 4);
     put(32, nas_id, sizeof nas_id);
-    put(1, "alice@example.org", 17);
+    put(1, user, strlen(user));
     put(44, "0000004F", 8);
 }
 
-void make_disconnect(int with_mac)
+void make_disconnect(int with_mac, const char *user)
 {
-    begin_request(40);
+    begin_request(40, user);
     put(31, "02-00-5E-10-00-01", 17);
     put(33, "proxy state.", 12);
     if (with_mac) {
@@ -65,7 +65,7 @@ void make_disconnect(int with_mac)
 void make_coa(int with_rates)
 {
     static const uint8_t in_four_groups[] = {0, 0, 0x7E, 0xD9, 3, 20, 3, 18, 3, 16, 3, 14, 1, 6, 0, 0, 0xFA, 0, 2, 6, 0, 0, 0x7D, 0};
-    begin_request(43);
+    begin_request(43, ALICE);
     if (with_rates)
         put(26, in_four_groups, sizeof in_four_groups);
     else

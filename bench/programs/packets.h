@@ -8,8 +8,10 @@ static const uint32_t nas_ip = 0xC0000207, clock_now = 1700000000;
 extern uint8_t packet[4096];
 extern size_t length;
 
-/* For the session of alice@example.org: 102 bytes, or 120 with a Message-Authenticator, last. */
-void make_disconnect(int with_mac);
+#define ALICE "alice@example.org"
+
+/* For the session of this user: ALICE gives 102 bytes, or 120 with a Message-Authenticator, last. */
+void make_disconnect(int with_mac, const char *user);
 
 /* A CoA-Request for the same session: 75 bytes with a Session-Timeout, or 95 with both rates in four groups. Both have as many MD5 blocks. */
 void make_coa(int with_rates);

@@ -30,7 +30,7 @@ int main(int argc, char **argv)
 {
     if (argc != 3)
         return 2;
-    make_disconnect(0);
+    make_disconnect(0, ALICE);
     for (long runs = strtol(argv[2], NULL, 10); runs > 0; runs--) {
         if (!(strcmp(argv[1], "verdict") == 0 ? verdict_passes() : authenticator_right())) {
             fprintf(stderr, "reading: the %s is not as it must be\n", argv[1]);

@@ -3,6 +3,9 @@
 #include <string.h>
 
 #include "../../include/fumbokeri.h"
+#include "packets.h"
+
+#define FORTY "resident.of.the.care.home.by.the.river-0" /* the bytes that the users of OTHER_LAST share */
 
 static void put_text(uint8_t *field, const char *text)
 {
@@ -20,14 +23,28 @@ static void put_session(uint8_t *slot, const char *user, const char *id, const c
     put_text(slot + 115, station);
 }
 
+const char *named_user(enum neighbours others)
+{
+    switch (others) {
+    case OTHER_LAST:
+        return FORTY "~";
+    case SAME_USER:
+        return FORTY "0@care-home.example.org";
+    default:
+        return ALICE;
+    }
+}
+
 void fill_table(uint8_t *table, size_t slots, enum neighbours others)
 {
     memset(table, 0, slots * FBK_SLOT_SIZE);
     for (size_t k = 0; k + 1 < slots && others != FREE; k++) {
-        char user[] = "??ice@example.org", id[] = "000001??", station[] = "02-00-5E-10-01-??";
+        char user[] = "??ice@example.org", last[] = FORTY "?", id[] = "000001??", station[] = "02-00-5E-10-01-??";
         user[0] = id[6] = station[15] = (char)('0' + k / 10);
         user[1] = id[7] = station[16] = (char)('0' + k % 10);
-        put_session(table + k * FBK_SLOT_SIZE, others == OTHER_LENGTH ? user + 1 : user, id, station);
+        last[40] = (char)('0' + k);
+        const char *of[] = {[OTHER_LENGTH] = user + 1, [OTHER_TEXT] = user, [OTHER_LAST] = last, [SAME_USER] = named_user(SAME_USER)};
+        put_session(table + k * FBK_SLOT_SIZE, of[others], id, station);
     }
-    put_session(table + (slots - 1) * FBK_SLOT_SIZE, "alice@example.org", "0000004F", "02-00-5E-10-00-01");
+    put_session(table + (slots - 1) * FBK_SLOT_SIZE, named_user(others), "0000004F", "02-00-5E-10-00-01");
 }

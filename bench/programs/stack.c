@@ -100,7 +100,7 @@ static int measure_packets(void)
 {
     int right = 1;
     for (with_mac = 0; with_mac < 2; with_mac++) {
-        make_disconnect(with_mac);
+        make_disconnect(with_mac, ALICE);
         right &= measure_all(0);
         packet[4] ^= 1;
         right &= measure_all(104);

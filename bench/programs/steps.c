@@ -29,7 +29,7 @@ int main(int argc, char **argv)
     for (size_t i = 0; argc == 3 && i < sizeof kinds / sizeof *kinds; i++) {
         if (strcmp(kinds[i].name, argv[1]) != 0)
             continue;
-        make_disconnect(0);
+        make_disconnect(0, ALICE);
         fbk_make(&before, secret, sizeof secret, nas_ip, nas_id, sizeof nas_id);
         fbk_start(&before, table, sizeof table, 0, 0, 0, 0, (const uint8_t *)"alice@example.org", 17, (const uint8_t *)"0000004F", 8,
                   (const uint8_t *)"02-00-5E-10-00-01", 17, NULL, 0, &slot);

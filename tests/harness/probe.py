@@ -14,6 +14,7 @@ SIGNATURES = {
     "hmac": BYTES + BYTES + BYTES,
     "hmac_cut": BYTES + BYTES + SIZE + SIZE + BYTES,
     "equal": BYTES + BYTES,
+    "compare": BYTES + BYTES + POINTER,
     "equal16": BYTES + BYTES,
     "number": BYTES + SIZE + U32 + POINTER,
     "put": BYTES + SIZE + U32 + U32,

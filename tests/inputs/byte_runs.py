@@ -10,6 +10,11 @@ def sample(seed, length):
     return hashlib.shake_128(b"%d" % seed).digest(length)
 
 
+def changed(run, place, bits):
+    """The run with these bits of one byte turned."""
+    return run[:place] + bytes([run[place] ^ bits]) + run[place + 1:]
+
+
 def cuts(length):
     """All pairs a <= b of places around the borders of blocks, of padding, and the ends."""
     near = {0, 1, 55, 56, length - 1, length}

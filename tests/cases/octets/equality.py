@@ -1,9 +1,5 @@
 """Equality of byte runs: any, and of authenticators."""
-from tests.inputs.byte_runs import sample
-
-
-def changed(run, place, bits):
-    return run[:place] + bytes([run[place] ^ bits]) + run[place + 1:]
+from tests.inputs.byte_runs import changed, sample
 
 
 def equal(probe, tally):
