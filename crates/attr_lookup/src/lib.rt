@@ -1,4 +1,6 @@
 // What a pass kept of a type: for the rules that look at one type, and for those who want its value.
+#![tactic(auto)]
+
 ghost use Rattle.std.specs.Prelude.{◌≡◌, ◌-◌, ◌≤◌, get_or};
 ghost use Rattle.attr_survey.specs.Survey.{seen_at};
 ghost use Rattle.attr_lookup.specs.Lookup.{kept_start, kept_place, kept_size, kept_value};

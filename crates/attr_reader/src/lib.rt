@@ -1,10 +1,12 @@
 // A reader over the attribute area keeps the area and its place together. `next` and `value_in` take it apart and call one of `attributes`.
+#![tactic(auto)]
+
 ghost use Rattle.std.specs.Prelude.{◌≡◌};
 ghost use Rattle.attr_walk.specs.Attributes.{step_at, value_of, value_at};
 ghost use Rattle.attr_reader.specs.Readers.{opened, moved_to};
 
 // An area, and a place in it.
-#[derive(Drop)]
+#[derive(Clone, Copy)]
 pub struct Reader<'a> {
     pub area: &'a [u8],
     pub at: usize,

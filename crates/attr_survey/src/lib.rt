@@ -1,4 +1,6 @@
 // One pass over the attributes of an area: what the rules need to know of them.
+#![tactic(auto)]
+
 ghost use Rattle.std.specs.Prelude.{◌≡◌, ◌≤◌, length};
 ghost use Rattle.attr_survey.specs.Survey.{zeros, Typed, Flagged, Kept};
 
@@ -11,7 +13,7 @@ mod turns; // turns.rt: the flags, attribute by attribute
 mod vendors; // vendors.rt: what the Vendor-Specific attributes add to them
 
 // The flags of a pass.
-#[derive(Drop)]
+#[derive(Clone, Copy)]
 pub struct Flags {
     // The attributes fill the area.
     pub tiled: bool,

@@ -1,4 +1,6 @@
 // What each attribute type may be and do in a request: the table of support classes, and the rules 401, 402, 404 and 405 that are read off it.
+#![tactic(auto)]
+
 ghost use Rattle.std.specs.Prelude.{◌≡◌, ◌<◌};
 ghost use Rattle.attr_types.specs.Classes.{class_of, classes, says, lacking, misfit_by};
 

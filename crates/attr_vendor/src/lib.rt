@@ -1,26 +1,28 @@
 // The value of a Vendor-Specific attribute (type 26): a vendor's number, then a list of items, of which one may be a list itself. An item has the form of an
 // attribute, so it is read as one.
+#![tactic(auto)]
+
 mod items; // items.rt: the two that read a list of items and one item, and call each other
 
 ghost use Rattle.std.specs.Prelude.{◌≡◌, ◌||◌};
 ghost use Rattle.attr_vendor.specs.Vendor.{vendor_of, is_other, is_faulty, is_set, sets_rate};
 
 // A rate in bits a second, all 32 bits of it, or none.
-#[derive(Drop)]
+#[derive(Clone, Copy)]
 pub enum Rate {
     Unset,
     Is(u32),
 }
 
 // The two rates of a session.
-#[derive(Drop)]
+#[derive(Clone, Copy)]
 pub struct Rates {
     pub down: Rate,
     pub up: Rate,
 }
 
 // What reading some items gives.
-#[derive(Drop)]
+#[derive(Clone, Copy)]
 pub enum Read {
     // Each is as it should be: the rates set so far.
     Good(Rates),
@@ -29,7 +31,7 @@ pub enum Read {
 }
 
 // What a type 26 says.
-#[derive(Drop)]
+#[derive(Clone, Copy)]
 pub enum Vendor {
     // It is another vendor's.
     Other,

@@ -1,9 +1,11 @@
 // Reading the attribute area: one attribute at a place, its value as the part of the area that it is, and whether attributes fill the area.
+#![tactic(auto)]
+
 ghost use Rattle.std.specs.Prelude.{◌≡◌};
 ghost use Rattle.attr_walk.specs.Attributes.{step_at, standing, value_of, tiled};
 
 // An attribute: its type, where it stands in the area, and its length, which counts type and length too.
-#[derive(Drop)]
+#[derive(Clone, Copy)]
 pub struct Attribute {
     pub kind: u8,
     pub at: usize,
@@ -11,14 +13,14 @@ pub struct Attribute {
 }
 
 // The first attribute that passes a test. Only the definitions name it.
-#[derive(Drop)]
+#[derive(Clone, Copy)]
 pub enum Search {
     At(Attribute),
     Missing,
 }
 
 // What stands at a place of the area.
-#[derive(Drop)]
+#[derive(Clone, Copy)]
 pub enum Step {
     // An attribute, and the place after it.
     Found(Attribute, usize),

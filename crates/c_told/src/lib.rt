@@ -1,4 +1,6 @@
 // What C is told of a step that is not refused. It exports nothing.
+#![tactic(auto)]
+
 ghost use Rattle.std.specs.Prelude.{◌≡◌};
 ghost use Rattle.c_numbers.specs.Numbers.{told, alone, Small};
 ghost use Rattle.c_told.specs.Told.{told_by, outcome_of};

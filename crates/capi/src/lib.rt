@@ -1,4 +1,6 @@
 // The library as C calls it: numbers and byte runs. Nothing is decided here.
+#![tactic(auto)]
+
 mod make; // the scheduler, a call a file: make.rt, open.rt, step.rt, drop.rt, start.rt, end.rt
 mod drop;
 mod end;

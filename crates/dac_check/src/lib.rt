@@ -1,4 +1,6 @@
 // The check of a reply against its request: V1 to V6, each returned as soon as it is known.
+#![tactic(auto)]
+
 ghost use Rattle.std.specs.Prelude.{◌≡◌, false, not, ◌||◌, ◌+◌, ◌≤◌, eqb, length};
 ghost use Rattle.octet_numbers.specs.Runs.{part, equal_bytes};
 ghost use Rattle.packet_auth.specs.Signing.{authenticator};
@@ -8,7 +10,7 @@ ghost use Rattle.packet_form.specs.Discards.{form_of, Sized};
 ghost use Rattle.dac_check.specs.ReplyCheck.{bad_reply, failure_of, check_answer};
 
 // A right reply, document 01's V number, or its refusal number.
-#[derive(Drop)]
+#[derive(Clone, Copy)]
 pub enum Checked {
     Right,
     Failed(u8),

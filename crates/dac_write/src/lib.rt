@@ -1,11 +1,13 @@
 // The request writer: the other side of the gate.
+#![tactic(auto)]
+
 ghost use Rattle.std.specs.Prelude.{◌≡◌};
 ghost use Rattle.dac_write.specs.Writer.{draft, write_answer, write_output};
 
 mod writing; // writing.rt: a request that is not refused
 
 // The length of the request written, or document 01's refusal number.
-#[derive(Drop)]
+#[derive(Clone, Copy)]
 pub enum Written {
     Done(usize),
     NotWritten(u8),

@@ -1,4 +1,6 @@
 // The answers to a request, and the last move of one that meets no rule before cause 7.
+#![tactic(auto)]
+
 ghost use Rattle.std.specs.Prelude.{◌≡◌, false, ◌≤◌, length};
 ghost use Rattle.octet_numbers.specs.Runs.{write};
 ghost use Rattle.attr_walk.specs.Attributes.{attributes, any};
@@ -14,7 +16,7 @@ ghost use Rattle.das_answer.specs.Commit.{commit_answer, commit_table};
 
 // Document 01's answers: refused by an R number; discarded by a D number, no stamp usable; discarded by D6 for a stale stamp, with
 // its skew; NAK with cause, skew and the reply's length; ACK with the number of sessions changed, skew and the reply's length.
-#[derive(Drop)]
+#[derive(Clone, Copy)]
 pub enum Answer {
     Refused(u8),
     Discarded(u8),

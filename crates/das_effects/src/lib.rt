@@ -1,4 +1,6 @@
 // What a request does to the sessions: the criteria by which it names them, and the change.
+#![tactic(auto)]
+
 mod rates; // rates.rt: the rates of a type 26
 mod taken; // taken.rt: a criterion, a number or a text, from what the pass kept of its type
 

@@ -1,4 +1,6 @@
 // A whole request: refused, discarded, or answered.
+#![tactic(auto)]
+
 mod passed; // passed.rt: what follows D1 to D4
 
 ghost use Rattle.std.specs.Prelude.{◌≡◌, ◌≤◌, length};

@@ -1,4 +1,6 @@
 // D4 to D6 and causes 1 to 6 of a request, with the reply where one of the causes applies. It knows no job and no session.
+#![tactic(auto)]
+
 ghost use Rattle.std.specs.Prelude.{◌≡◌, ◌≤◌, length, ℤ};
 ghost use Rattle.attr_survey.specs.Survey.{zeros, Kept};
 ghost use Rattle.rule_causes.specs.declared.Cause.{Cause};
@@ -11,7 +13,7 @@ ghost use Rattle.das_reply_parts.specs.Reply.{reply_length};
 ghost use Rattle.das_judge.specs.Judged.{judged_as, reply_judged};
 
 // An answer, or the request passed, with its skew.
-#[derive(Drop)]
+#[derive(Clone, Copy)]
 pub enum Judged {
     Ended(das_answer::Answer),
     Passed(i64),

@@ -1,4 +1,6 @@
 // The reply to a request, written whole; laws on it: it is never longer than the request, and read back it is what its definition says.
+#![tactic(auto)]
+
 ghost use Rattle.std.specs.Prelude.{◌≡◌, ◌≤◌, length};
 ghost use Rattle.octet_numbers.specs.Runs.{write};
 ghost use Rattle.attr_survey.specs.Survey.{Kept};

@@ -1,4 +1,6 @@
 // The parts of a reply, each written after the one before; the head comes last, since it tells the length.
+#![tactic(auto)]
+
 ghost use Rattle.std.specs.Prelude.{◌≡◌, cond, ◌++◌, ◌+◌, ◌≤◌, ◌<◌, length};
 ghost use Rattle.octet_numbers.specs.Runs.{write};
 ghost use Rattle.attr_walk.specs.Attributes.{step_at};

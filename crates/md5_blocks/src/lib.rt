@@ -1,4 +1,6 @@
 // MD5 (RFC 1321) by blocks of 64 bytes.
+#![tactic(auto)]
+
 ghost use Rattle.std.specs.Prelude.{◌≡◌, ◌/◌, length};
 ghost use Rattle.md5_ops.specs.Md5.{initial, add_state, md5_block, after};
 ghost use Rattle.md5_ops.specs.Steps.{InPlace};

@@ -1,4 +1,6 @@
 // MD5 of a message that is handed over in pieces. Whole blocks are hashed where they lie; only what fills no block is copied.
+#![tactic(auto)]
+
 ghost use Rattle.std.specs.Prelude.{◌≡◌, List, ◌++◌, ℕ, ◌+◌, ◌%◌, length};
 ghost use Rattle.md5_ops.specs.Md5.{md5};
 ghost use Rattle.md5_digest.specs.Held.{Held};

@@ -1,4 +1,6 @@
 // HMAC-MD5 (RFC 2104) of a message that is handed over in pieces, for a key of any length.
+#![tactic(auto)]
+
 ghost use Rattle.std.specs.Prelude.{◌≡◌, List, ◌++◌, ℕ, ◌≤◌, length};
 ghost use Rattle.md5_ops.specs.Md5.{after, initial};
 ghost use Rattle.md5_digest.specs.Held.{Held};

@@ -6,7 +6,7 @@ use super::State;
 use super::steps::step;
 
 // The rotations of a round.
-#[derive(Drop)]
+#[derive(Clone, Copy)]
 struct Shifts(u32, u32, u32, u32);
 
 // Operations i to i + 3.

@@ -1,4 +1,6 @@
 // What MD5 puts after a message, and the words as bytes.
+#![tactic(auto)]
+
 ghost use Rattle.std.specs.Prelude.{◌≡◌, [], ◌∷◌, ◌++◌, ◌+◌, ◌-◌, ◌*◌, ◌<◌, ◌≤◌, length, replicate};
 ghost use Rattle.octet_numbers.specs.Runs.{write};
 ghost use Rattle.md5_ops.specs.Md5.{le_bytes, output};

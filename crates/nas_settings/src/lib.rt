@@ -1,4 +1,6 @@
 // What a gate may be set up with.
+#![tactic(auto)]
+
 ghost use Rattle.std.specs.Prelude.{◌≡◌};
 ghost use Rattle.nas_settings.specs.Settings.{bad_secret, bad_nas_id};
 

@@ -1,4 +1,6 @@
 // Runs of bytes written: copies of others, and one byte many times.
+#![tactic(auto)]
+
 ghost use Rattle.std.specs.Prelude.{◌≡◌, ◌+◌, ◌≤◌, length, replicate};
 ghost use Rattle.octet_numbers.specs.Runs.{part, write};
 

@@ -1,4 +1,6 @@
 // Numbers in bytes, read and written, high byte first.
+#![tactic(auto)]
+
 ghost use Rattle.std.specs.Prelude.{◌≡◌, [], ◌∷◌, ◌+◌, ◌*◌, ◌≤◌, ◌<◌, length};
 ghost use Rattle.octet_numbers.specs.Numbers.{be, be_bytes};
 ghost use Rattle.octet_numbers.specs.Runs.{write};

@@ -1,4 +1,6 @@
 // Runs of bytes: a part of one, comparisons.
+#![tactic(auto)]
+
 ghost use Rattle.std.specs.Prelude.{◌≡◌, reverse, ◌+◌, ◌≤◌, length};
 ghost use Rattle.octet_numbers.specs.Numbers.{be_bytes};
 ghost use Rattle.octet_numbers.specs.Runs.{part, equal_bytes};
@@ -18,7 +20,7 @@ pub fn slice(s: &[u8], at: usize, n: usize) -> &[u8]
 }
 
 // What a comparison of two texts finds: whether they are the same, and how many byte pairs it compared.
-#[derive(Drop)]
+#[derive(Clone, Copy)]
 pub struct Compared {
     pub same: bool,
     pub pairs: usize,

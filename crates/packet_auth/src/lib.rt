@@ -1,4 +1,6 @@
 // The authenticators of a packet where it lies: p is the packet, n its Length, bytes after Length are not looked at.
+#![tactic(auto)]
+
 ghost use Rattle.std.specs.Prelude.{◌≡◌, ◌++◌, ◌≤◌, length, take};
 ghost use Rattle.octet_numbers.specs.Runs.{part, write, equal_bytes};
 ghost use Rattle.packet_auth.specs.Signing.{zeros, authenticator};

@@ -1,4 +1,6 @@
 // The request authenticator block by block, as the scheduler works on it: p is the packet, n its Length.
+#![tactic(auto)]
+
 mod blocks; // blocks.rt: a block of the signed request, put together
 
 ghost use Rattle.std.specs.Prelude.{◌≡◌, ◌+◌, ◌≤◌, ◌<◌, length};

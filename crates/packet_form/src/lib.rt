@@ -1,4 +1,6 @@
 // What a packet is made of, and whether it has the form of a request: D1 to D3.
+#![tactic(auto)]
+
 ghost use Rattle.std.specs.Prelude.{◌≡◌, false, ◌||◌, eqb};
 ghost use Rattle.packet_form.specs.Discards.{bad_length, form_of, Sized};
 

@@ -1,4 +1,6 @@
 // The Message-Authenticator of a packet; D5 is that of a request. p is the packet, n its Length, bytes after Length are not looked at.
+#![tactic(auto)]
+
 ghost use Rattle.std.specs.Prelude.{◌≡◌, ◌+◌, ◌≤◌, length};
 ghost use Rattle.octet_numbers.specs.Runs.{part, equal_bytes};
 ghost use Rattle.packet_form.specs.Packet.{area_of};

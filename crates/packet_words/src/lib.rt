@@ -1,4 +1,6 @@
 // MD5's chaining words as a job holds them: four numbers there, a State where they are worked on.
+#![tactic(auto)]
+
 ghost use Rattle.std.specs.Prelude.{◌≡◌, ◌+◌, ◌≤◌, ◌<◌, length};
 ghost use Rattle.packet_blocks.specs.Block.{block_count, hashed};
 ghost use Rattle.packet_words.specs.Words.{words_of, hash_state, words_signed};

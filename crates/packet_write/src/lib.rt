@@ -1,4 +1,6 @@
 // What every packet is written with, reply or request: the front before the attributes, an attribute, and room for type 80 after them.
+#![tactic(auto)]
+
 pub mod seal; // seal.rt: the signatures
 
 ghost use Rattle.std.specs.Prelude.{◌≡◌, ◌∷◌, ◌++◌, ◌+◌, ◌≤◌, length};

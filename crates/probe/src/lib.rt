@@ -1,4 +1,6 @@
 // Exports for tests and benchmarks, apart from the product's C library. Each answers 0, or 1 where it refuses and writes nothing.
+#![tactic(auto)]
+
 mod bytes;
 mod numbers;
 

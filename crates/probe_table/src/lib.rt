@@ -1,4 +1,6 @@
 // Exports of the session table for tests and benchmarks, apart from the product's C library: what reads it.
+#![tactic(auto)]
+
 mod given;
 mod writes;
 

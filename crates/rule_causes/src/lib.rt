@@ -1,4 +1,6 @@
 // The NAK causes 1 to 6, first that applies, from what one pass over the attributes tells.
+#![tactic(auto)]
+
 ghost use Rattle.std.specs.Prelude.{◌≡◌, false};
 ghost use Rattle.attr_survey.specs.Survey.{Flagged, Kept};
 ghost use Rattle.rule_causes.specs.Causes.{error_cause, applies, cause_of};
@@ -10,7 +12,7 @@ use checks::{missing, other_address, other_value};
 mod checks;
 
 // RFC 3576's Error-Cause values that document 01 uses.
-#[derive(Drop)]
+#[derive(Clone, Copy)]
 pub enum Cause {
     UnsupportedAttribute,
     MissingAttribute,

@@ -1,11 +1,13 @@
 // D6: the Event-Timestamp of a request, and its distance from the clock.
+#![tactic(auto)]
+
 ghost use Rattle.std.specs.Prelude.{◌≡◌};
 ghost use Rattle.attr_survey.specs.Survey.{Kept};
 ghost use Rattle.rule_stamp.specs.Stamp.{stamp_of, stale, skew_of};
 
 use attr_types::EVENT_TIMESTAMP;
 
-#[derive(Drop)]
+#[derive(Clone, Copy)]
 pub enum Stamp {
     Usable(u32),
     Unusable,

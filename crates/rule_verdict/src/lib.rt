@@ -1,4 +1,6 @@
 // The verdict on a request before any session is looked at.
+#![tactic(auto)]
+
 pub mod nak; // nak.rt: causes 1 to 6
 pub mod pass; // pass.rt: the verdict by one pass over the attributes
 
@@ -10,7 +12,7 @@ ghost use Rattle.nas_settings.specs.Settings.{settings};
 ghost use Rattle.rule_verdict.specs.Verdict.{check_verdict};
 
 // Document 01's answers: discarded by a number, no stamp usable; discarded by D6 for a stale stamp; NAK with a cause; passed. The last three tell the skew.
-#[derive(Drop)]
+#[derive(Clone, Copy)]
 pub enum Verdict {
     Discarded(u8),
     Stale(i64),

@@ -1,4 +1,6 @@
 // A request in work, and its moves (document 01's job of the desk).
+#![tactic(auto)]
+
 mod checking; // checking.rt: Check
 mod committing; // committing.rt: Commit
 mod hashing; // hashing.rt: Hash
@@ -8,7 +10,7 @@ ghost use Rattle.std.specs.Prelude.{◌≡◌};
 ghost use Rattle.sched_job.specs.Job.{free_job, first_job, at_first_slot, is_open};
 ghost use Rattle.sched_job.specs.Moves.{going, done};
 
-#[derive(Drop)]
+#[derive(Clone, Copy)]
 pub enum Stage {
     Free,
     Hash(usize),
@@ -17,7 +19,7 @@ pub enum Stage {
 }
 
 // The four chaining words and the 64 slot marks beside the job's place, the Length and the clock of its opening.
-#[derive(Drop)]
+#[derive(Clone, Copy)]
 pub struct Job {
     pub stage: Stage,
     pub words: [u32; 4],
@@ -27,14 +29,14 @@ pub struct Job {
 }
 
 // Whether a step finished the job.
-#[derive(Drop)]
+#[derive(Clone, Copy)]
 pub enum Ending {
     Going,
     Done(das_answer::Answer),
 }
 
 // A job after a step, with the answer where it is finished.
-#[derive(Drop)]
+#[derive(Clone, Copy)]
 pub struct Moved {
     pub job: Job,
     pub ending: Ending,

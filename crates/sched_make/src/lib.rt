@@ -1,4 +1,6 @@
 // Making a scheduler: no request in work, and what it is made with copied.
+#![tactic(auto)]
+
 ghost use Rattle.std.specs.Prelude.{◌≡◌, ◌≤◌, length, replicate};
 ghost use Rattle.octet_numbers.specs.Runs.{write};
 ghost use Rattle.nas_settings.specs.Settings.{settings};

@@ -1,4 +1,6 @@
 // One step of a job: which of its moves is next.
+#![tactic(auto)]
+
 ghost use Rattle.std.specs.Prelude.{◌≡◌, cond, ◌≤◌, ltb, length};
 ghost use Rattle.table_slots.specs.Slot.{slot_count};
 ghost use Rattle.nas_settings.specs.Settings.{settings};

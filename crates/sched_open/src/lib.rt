@@ -1,4 +1,6 @@
 // A request comes in and gets a job or none; an open job is dropped.
+#![tactic(auto)]
+
 ghost use Rattle.std.specs.Prelude.{◌≡◌, Bool, ℕ, ◌*◌, ◌≤◌, ◌<◌, length, take, set};
 ghost use Rattle.octet_numbers.specs.Runs.{write};
 ghost use Rattle.sched_job.specs.Job.{first_job};

@@ -1,4 +1,6 @@
 // A job's part of the store, read again before Check, Match and Commit.
+#![tactic(auto)]
+
 pub mod check; // check.rt: Check
 
 ghost use Rattle.std.specs.Prelude.{◌≡◌, not, ◌&&◌, eqb, get_or};
@@ -13,7 +15,7 @@ ghost use Rattle.sched_reread.specs.Again.{Shown};
 use attr_types::MESSAGE_AUTHENTICATOR;
 
 // The store no longer shows the request, or shows it with this stamp.
-#[derive(Drop)]
+#[derive(Clone, Copy)]
 pub enum Again {
     Gone,
     Held(u32),

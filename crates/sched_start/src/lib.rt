@@ -1,4 +1,6 @@
 // Session start and end, as calls on the scheduler: each sends the jobs past Check back to slot 0.
+#![tactic(auto)]
+
 ghost use Rattle.std.specs.Prelude.{◌≡◌, length};
 ghost use Rattle.table_records.specs.Record.{session_of};
 ghost use Rattle.table_sessions.specs.Session.{insert_table, remove_table};

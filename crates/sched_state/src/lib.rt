@@ -2,7 +2,9 @@
 // themselves take it as C holds it, in arrays that are lent (crate sched_rows).
 
 // Four jobs; the secret and the gate's identity, fixed when it is made: the first secret_size and nas_id_size bytes count.
-#[derive(Drop)]
+#![tactic(auto)]
+
+#[derive(Clone, Copy)]
 pub struct Scheduler {
     pub jobs: [sched_job::Job; 4],
     pub secret: [u8; 64],
@@ -13,7 +15,7 @@ pub struct Scheduler {
 }
 
 // What a call answers: an R number; at opening a D number or the job; of a step that it goes on or what it came to; of a start the slot.
-#[derive(Drop)]
+#[derive(Clone, Copy)]
 pub enum Outcome {
     Refused(u8),
     Discarded(u8),
@@ -26,7 +28,7 @@ pub enum Outcome {
 }
 
 // The scheduler after a call, and the answer beside it.
-#[derive(Drop)]
+#[derive(Clone, Copy)]
 pub struct Called {
     pub scheduler: Scheduler,
     pub outcome: Outcome,

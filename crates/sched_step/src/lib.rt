@@ -1,4 +1,6 @@
 // A step call: R1, R4, R5, R7; the job moved by its part of the store; after an ACK all others restarted.
+#![tactic(auto)]
+
 mod moves; // moves.rt: a step that is not refused
 
 ghost use Rattle.std.specs.Prelude.{◌≡◌, ◌≤◌, length};

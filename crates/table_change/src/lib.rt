@@ -1,4 +1,6 @@
 // What a request does to the sessions that it names: each that is marked and live is ended or altered.
+#![tactic(auto)]
+
 mod fields;
 
 ghost use Rattle.std.specs.Prelude.{◌≡◌, ◌+◌, ◌*◌, ◌≤◌, ◌<◌, length, replicate};
@@ -7,21 +9,21 @@ ghost use Rattle.table_slots.specs.Slot.{slot_count, slot};
 ghost use Rattle.table_change.specs.Change.{altered, change_at, marked, change_marked, count_marked};
 
 // A number that a CoA sets, or not.
-#[derive(Drop)]
+#[derive(Clone, Copy)]
 pub enum Number {
     Unchanged,
     Set(u32),
 }
 
 // A text that a CoA sets, by its place in the request's attributes and its length, or not.
-#[derive(Drop)]
+#[derive(Clone, Copy)]
 pub enum Text {
     Unchanged,
     Set(usize, usize),
 }
 
 // What a CoA alters.
-#[derive(Drop)]
+#[derive(Clone, Copy)]
 pub struct Alteration {
     pub timeout: Number,
     pub idle: Number,
@@ -31,7 +33,7 @@ pub struct Alteration {
 }
 
 // What happens to the sessions that a request names.
-#[derive(Drop)]
+#[derive(Clone, Copy)]
 pub enum Change {
     End,
     Alter(Alteration),

@@ -5,7 +5,7 @@ ghost use Rattle.table_slots.specs.Slot.{live};
 ghost use Rattle.table_criteria.specs.Meets.{inside, meets, matches, place, listed};
 
 // A byte and two runs of four bytes that every slot has which matches; most others are told by them. Where it is off it tells nothing.
-#[derive(Drop)]
+#[derive(Clone, Copy)]
 pub struct Sieve {
     pub on: bool,
     pub place: usize, // of the byte

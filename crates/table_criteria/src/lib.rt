@@ -1,9 +1,11 @@
 // What a request asks of a session, compared with a slot.
+#![tactic(auto)]
+
 pub mod compare; // compare.rt: each criterion with the field that it names
 pub mod first; // first.rt: what a slot must have to meet the first of them
 
 // A field of a slot that a request can name a session by.
-#[derive(Drop)]
+#[derive(Clone, Copy)]
 pub enum Field {
     UserName,
     NasPort,
@@ -13,7 +15,7 @@ pub enum Field {
 }
 
 // A field and the value that it must have: size bytes from place at on of the request's attributes.
-#[derive(Drop)]
+#[derive(Clone, Copy)]
 pub struct Criterion {
     pub field: Field,
     pub at: usize,
@@ -21,7 +23,7 @@ pub struct Criterion {
 }
 
 // The criteria of a request: the first count of the list.
-#[derive(Drop)]
+#[derive(Clone, Copy)]
 pub struct Criteria {
     pub count: usize,
     pub list: [Criterion; 5],

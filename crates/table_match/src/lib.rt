@@ -1,4 +1,6 @@
 // Which slots a request names: whether one of them matches, and the marks of all.
+#![tactic(auto)]
+
 ghost use Rattle.std.specs.Prelude.{◌≡◌};
 ghost use Rattle.table_slots.specs.Slot.{slot_count};
 ghost use Rattle.table_slots.specs.Marks.{marks_after};

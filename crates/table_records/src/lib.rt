@@ -1,4 +1,6 @@
 // The record of a session, written to its slot, and the limits of its texts.
+#![tactic(auto)]
+
 ghost use Rattle.std.specs.Prelude.{◌≡◌, ◌&&◌, [], ◌∷◌, ◌++◌, ◌+◌, ◌*◌, ◌≤◌, ◌<◌, length, replicate};
 ghost use Rattle.octet_numbers.specs.Numbers.{be_bytes};
 ghost use Rattle.octet_numbers.specs.Runs.{write};

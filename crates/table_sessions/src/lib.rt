@@ -1,4 +1,6 @@
 // Sessions recorded in the table, each in the lowest free slot, and ended by the number of their slot.
+#![tactic(auto)]
+
 mod search;
 
 ghost use Rattle.std.specs.Prelude.{◌≡◌};
@@ -6,13 +8,13 @@ ghost use Rattle.table_records.specs.Record.{session_of};
 ghost use Rattle.table_sessions.specs.Session.{insert_answer, insert_table, remove_answer, remove_table};
 
 // The slot of a new session, or document 01's refusal number.
-#[derive(Drop)]
+#[derive(Clone, Copy)]
 pub enum Inserted {
     Slot(usize),
     NotInserted(u8),
 }
 
-#[derive(Drop)]
+#[derive(Clone, Copy)]
 pub enum Removed {
     Gone,
     NotRemoved(u8),

@@ -1,4 +1,6 @@
 // The session table: its slots, what they hold, and which of them are live.
+#![tactic(auto)]
+
 ghost use Rattle.std.specs.Prelude.{◌≡◌, ◌&&◌, ◌+◌, ◌*◌, ◌≤◌, eqb, length, get_or};
 ghost use Rattle.table_slots.specs.Slot.{slot_count, slot, within, live, text};
 

@@ -1,1 +1,2 @@
 // The owner's demands as records, proved. No code.
+#![tactic(auto)]

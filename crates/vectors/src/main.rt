@@ -1,4 +1,6 @@
 // The vectors of RFC 1321, A.5, and of RFC 2202, 2, one line each: its name and its digest.
+#![tactic(auto)]
+
 ghost use Rattle.std.specs.Prelude.{◌≡◌, ◌<◌, length};
 ghost use Rattle.vectors.specs.Hex.{digit_of, hex_line};
 

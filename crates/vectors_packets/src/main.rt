@@ -1,4 +1,6 @@
 // Stored packets through the handler, a line each: name, answer, sessions changed, skew, reply, and the slots that changed.
+#![tactic(auto)]
+
 mod stored; // stored.rt: the packets
 
 ghost use Rattle.std.specs.Prelude.{◌≤◌, ◌<◌};

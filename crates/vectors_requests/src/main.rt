@@ -1,4 +1,6 @@
 // Stored requests through the writer and stored replies through the reply check, a line each: name, answer, and the request.
+#![tactic(auto)]
+
 mod stored; // stored.rt: the requests and replies
 
 ghost use Rattle.std.specs.Prelude.{◌<◌};

@@ -1,0 +1,6 @@
+use borrow.Author.Rules.{rules}
+use Rattle.md5_ops.proofs.Chain.{in_block}
+use Rattle.md5_blocks.proofs.block.Goals as goal
+
+pub returns : goal.returns
+returns c = search (rules, in_block)
