@@ -7,4 +7,4 @@ pub returns-then-f-lt56 : goal.returns-then-f-lt56
 returns-then-f-lt56 c = search (rules, one_block)
 
 pub returns : goal.returns
-returns c = fill.before.before.before.before.before in λ m held. two_blocks _ m _ _ held (search rules) _ _ _ _ _ _ mark.put_first.ensures fill.fill.ensures end.before.before.blocks3.ensures end.put-end2.ensures (search rules) c.before.blocks4.ensures c.bytes-of2.ensures
+returns c = λ m held. two_blocks _ m _ _ held (search rules) _ _ _ _ _ _ c.put_first.ensures c.fill.ensures c.blocks-r.ensures c.put_end-2.ensures (search rules) c.blocks-2.ensures c.bytes_of-2.ensures

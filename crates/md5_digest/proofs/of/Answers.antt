@@ -3,4 +3,4 @@ use Rattle.md5_digest.proofs.Pieces.{held_whole}
 use Rattle.md5_digest.proofs.of.Goals as goal
 
 pub returns : goal.returns
-returns c = c.before.before.before.before in held_whole _ _ _ _ _ _ update.before.initial.ensures update.update.ensures c.before.finish.ensures
+returns c = held_whole _ _ _ _ _ _ c.initial.ensures c.update-q.ensures c.finish.ensures

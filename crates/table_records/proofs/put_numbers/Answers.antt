@@ -4,4 +4,4 @@ use Rattle.table_records.proofs.Chain.{numbers_written}
 use Rattle.table_records.proofs.put_numbers.Goals as goal
 
 pub returns : goal.returns
-returns c = a.before.before.before.before in numbers_written _ _ _ _ _ _ _ _ _ _ _ _ refl mark.put-mark.ensures a.put-be32.ensures b.put-be322.ensures d.put-be323.ensures e.put-be324.ensures
+returns c = numbers_written _ _ _ _ _ _ _ _ _ _ _ _ refl c.put_mark.ensures c.put_be32.ensures c.put_be32-2.ensures c.put_be32-3.ensures c.put_be32-4.ensures

@@ -14,5 +14,5 @@ returns-then-not-lies_in-clause-by_index c = λ s whole m. search (rules, off_pa
 pub sieve_for-requires : goal.sieve_for-requires
 sieve_for-requires c = search (rules, inside_fits, inside_short)
 
-pub returns : goal.returns
-returns c = c.before.before.before.before.if1.false in (search rules, λ s whole m. first_passes _ start.args.t2 _ _ s _ start.requires more (c.sieve-for.ensures.1 s whole) m)
+pub returns-clause-by_index : goal.returns-clause-by_index
+returns-clause-by_index c = λ s whole m. first_passes _ c.args.c _ _ s _ c.requires c.if-n-eq0.false (c.sieve_for.ensures.by_index s whole) m
