@@ -1,0 +1,7 @@
+-- `probe_table::probe_table_count` meets its contract: there are at most 64 slots.
+use borrow.Author.Rules.{rules}
+use Rattle.probe_table.proofs.Answers.{slots_low}
+use Rattle.probe_table.proofs.probe_table_count.Goals as goal
+
+pub overflow_cast-result : goal.overflow_cast-result
+overflow_cast-result c = search (rules, slots_low)
