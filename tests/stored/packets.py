@@ -65,13 +65,13 @@ def literal(run, head):
 
 
 def called(name, packet):
-    return f'    run(\n        b"Packet {name}",\n        {literal(packet, 20)},\n    );\n'
+    return f'    run(\n        out,\n        b"Packet {name}",\n        {literal(packet, 20)},\n    )?;\n'
 
 
 def source():
-    text = "// The stored packets: written by tests/stored/packets.py.\nuse crate::run;\n"
+    text = "// The stored packets: written by tests/stored/packets.py.\nuse crate::run;\nuse std::io;\n"
     for group, cases in GROUPS.items():
-        text += f"\npub fn {group}() {{\n" + "".join(called(*case) for case in cases) + "}\n"
+        text += f"\npub fn {group}<W: io::Write>(out: &mut W) -> io::Result<()> {{\n" + "".join(called(*case) for case in cases) + "    Ok(())\n}\n"
     return text
 
 

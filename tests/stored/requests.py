@@ -45,22 +45,23 @@ FAILED = [
 
 def call(function, *arguments):
     """On one line where the arguments take up to 60 letters, as `rt fmt` has it."""
+    arguments = ("out", *arguments)
     short = ", ".join(map(str, arguments))
     if len(short) <= 60:
-        return f"    {function}({short});\n"
-    return f"    {function}(\n" + "".join(f"        {text},\n" for text in arguments) + "    );\n"
+        return f"    {function}({short})?;\n"
+    return f"    {function}(\n" + "".join(f"        {text},\n" for text in arguments) + "    )?;\n"
+
+
+def group(name, calls):
+    return f"\npub fn {name}<W: io::Write>(out: &mut W) -> io::Result<()> {{\n{calls}    Ok(())\n}}\n"
 
 
 def source():
-    text = "// Requests to be written and replies to be checked: written by tests/stored/requests.py.\nuse crate::check;\nuse crate::write;\n"
-    text += "\npub fn written() {\n"
-    for name, code, given, add in WRITTEN:
-        text += call("write", f'b"Request {name}"', code, literal(given, 0), str(add).lower())
-    for group, cases in [("right", RIGHT), ("failed", FAILED)]:
-        text += f"}}\n\npub fn {group}() {{\n"
-        for name, asked, answer in cases:
-            text += call("check", f'b"Reply {name}"', literal(asked, 20), literal(answer, 20))
-    return text + "}\n"
+    text = "// Requests to be written and replies to be checked: written by tests/stored/requests.py.\nuse crate::{check, write};\nuse std::io;\n"
+    text += group("written", "".join(call("write", f'b"Request {name}"', code, literal(given, 0), str(add).lower()) for name, code, given, add in WRITTEN))
+    for name, cases in [("right", RIGHT), ("failed", FAILED)]:
+        text += group(name, "".join(call("check", f'b"Reply {case}"', literal(asked, 20), literal(answer, 20)) for case, asked, answer in cases))
+    return text
 
 
 def written_line(name, code, given, add):

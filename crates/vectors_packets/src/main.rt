@@ -5,7 +5,7 @@ mod stored; // stored.rt: the packets
 
 ghost use Rattle.std.specs.Prelude.{◌≤◌, ◌<◌};
 
-use libc::STDOUT_FILENO;
+use std::io;
 
 fn wide(x: u8) -> u64
     ensures { result < 256 }
@@ -13,19 +13,20 @@ fn wide(x: u8) -> u64
     x as u64
 }
 
-fn hex(s: &[u8]) {
+fn hex<W: io::Write>(out: &mut W, s: &[u8]) -> io::Result<()> {
     for i in 0..s.len() {
-        io::print_hex(STDOUT_FILENO, wide(s[i]), 2);
+        write!(out, "{:02x}", s[i])?;
     }
+    Ok(())
 }
 
-fn word(w: &[u8]) {
-    io::write_all(STDOUT_FILENO, w);
+fn word<W: io::Write>(out: &mut W, w: &[u8]) -> io::Result<()> {
+    out.write_all(w)
 }
 
-fn number(name: &[u8], n: u64) {
-    word(name);
-    io::print_decimal(STDOUT_FILENO, n);
+fn number<W: io::Write>(out: &mut W, name: &[u8], n: u64) -> io::Result<()> {
+    word(out, name)?;
+    write!(out, "{n}")
 }
 
 // k, or 0 where it is negative.
@@ -36,52 +37,52 @@ fn unsigned(k: i64) -> u64
 }
 
 // !k is -k - 1, which always fits.
-fn skew(k: i64) {
+fn skew<W: io::Write>(out: &mut W, k: i64) -> io::Result<()> {
     if k < 0 {
-        number(b" skew -", unsigned(!k) + 1);
-        return;
+        return number(out, b" skew -", unsigned(!k) + 1);
     }
-    number(b" skew ", unsigned(k));
+    number(out, b" skew ", unsigned(k))
 }
 
 // Writes what an answer tells, and gives the length of the reply.
-fn told(a: das_answer::Answer) -> usize {
+fn told<W: io::Write>(out: &mut W, a: das_answer::Answer) -> io::Result<usize> {
     match a {
         das_answer::Answer::Refused(n) => {
-            number(b" answer ", wide(n));
-            0
+            number(out, b" answer ", wide(n))?;
+            Ok(0)
         }
         das_answer::Answer::Discarded(d) => {
-            number(b" answer ", 100 + wide(d));
-            0
+            number(out, b" answer ", 100 + wide(d))?;
+            Ok(0)
         }
         das_answer::Answer::Stale(k) => {
-            number(b" answer ", 106);
-            skew(k);
-            0
+            number(out, b" answer ", 106)?;
+            skew(out, k)?;
+            Ok(0)
         }
         das_answer::Answer::Nak(cause, k, n) => {
-            number(b" answer ", rule_causes::error_cause(cause) as u64);
-            skew(k);
-            n
+            number(out, b" answer ", rule_causes::error_cause(cause) as u64)?;
+            skew(out, k)?;
+            Ok(n)
         }
         das_answer::Answer::Ack(count, k, n) => {
-            number(b" answer 0 changed ", count as u64);
-            skew(k);
-            n
+            number(out, b" answer 0 changed ", count as u64)?;
+            skew(out, k)?;
+            Ok(n)
         }
     }
 }
 
 // Slot k, where it is not as it was.
-fn changed(before: &[u8], t: &[u8], k: usize) {
+fn changed<W: io::Write>(out: &mut W, before: &[u8], t: &[u8], k: usize) -> io::Result<()> {
     let was = table_slots::slot_of(before, k);
     let is = table_slots::slot_of(t, k);
     if !octet_runs::equal(was, is) {
-        number(b" slot ", k as u64);
-        word(b" ");
-        hex(is);
+        number(out, b" slot ", k as u64)?;
+        word(out, b" ")?;
+        hex(out, is)?;
     }
+    Ok(())
 }
 
 // Two sessions on NAS-Port 7.
@@ -95,35 +96,39 @@ fn table() -> [u8; 384] {
 }
 
 // The table that each packet finds.
-fn start() {
+fn start<W: io::Write>(out: &mut W) -> io::Result<()> {
     let none = [0u8; 384];
     let t = table();
-    word(b"Table");
-    changed(&none, &t, 0);
-    changed(&none, &t, 1);
-    word(b"\n");
+    word(out, b"Table")?;
+    changed(out, &none, &t, 0)?;
+    changed(out, &none, &t, 1)?;
+    word(out, b"\n")
 }
 
-pub fn run(name: &[u8], packet: &[u8]) {
+pub fn run<W: io::Write>(out: &mut W, name: &[u8], packet: &[u8]) -> io::Result<()> {
     let before = table();
     let mut t = table();
     let mut reply = [0u8; 4096];
-    word(name);
-    let n = told(das_handle::handle(
-        &mut t, b"xyzzy", 0xc0000207, b"g", &mut reply, packet, 1700000000,
-    ));
+    word(out, name)?;
+    let n = told(
+        out,
+        das_handle::handle(
+            &mut t, b"xyzzy", 0xc0000207, b"g", &mut reply, packet, 1700000000,
+        ),
+    )?;
     if n > 0 {
-        word(b" reply ");
-        hex(octet_runs::slice(&reply, 0, n));
+        word(out, b" reply ")?;
+        hex(out, octet_runs::slice(&reply, 0, n))?;
     }
-    changed(&before, &t, 0);
-    changed(&before, &t, 1);
-    word(b"\n");
+    changed(out, &before, &t, 0)?;
+    changed(out, &before, &t, 1)?;
+    word(out, b"\n")
 }
 
-fn main() {
-    start();
-    stored::discards();
-    stored::naks();
-    stored::acks();
+fn main(rt: HostRuntime) -> io::Result<()> {
+    let mut out = rt.stdout();
+    start(&mut out)?;
+    stored::discards(&mut out)?;
+    stored::naks(&mut out)?;
+    stored::acks(&mut out)
 }

@@ -1,0 +1,25 @@
+-- `das_handle::handle` meets its contract: a refusal comes before any judgement.
+use borrow.Author.Rules.{rules}
+use Rattle.das_handle.proofs.Stages.{room, handle_refused, refused_table_kept, refused_reply_kept, handle_judged, judged_table, judged_reply}
+use Rattle.das_handle.proofs.handle.Goals as goal
+
+pub returns-then-r-ne0-clause-value : goal.returns-then-r-ne0-clause-value
+returns-then-r-ne0-clause-value c = search (rules, handle_refused)
+
+pub returns-then-r-ne0-clause-t_after : goal.returns-then-r-ne0-clause-t_after
+returns-then-r-ne0-clause-t_after c = search (rules, refused_table_kept)
+
+pub returns-then-r-ne0-clause-reply_after : goal.returns-then-r-ne0-clause-reply_after
+returns-then-r-ne0-clause-reply_after c = search (rules, refused_reply_kept)
+
+pub judged-requires : goal.judged-requires
+judged-requires c = search (rules, room)
+
+pub returns-clause-value : goal.returns-clause-value
+returns-clause-value c = search (rules, handle_judged)
+
+pub returns-clause-t_after : goal.returns-clause-t_after
+returns-clause-t_after c = search (rules, judged_table)
+
+pub returns-clause-reply_after : goal.returns-clause-reply_after
+returns-clause-reply_after c = search (rules, judged_reply)
