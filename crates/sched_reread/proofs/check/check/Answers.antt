@@ -2,7 +2,7 @@
 use borrow.Author.Rules.{rules}
 use mathlib.Core.Path.{refl}
 use Rattle.attr_survey.specs.Survey.{zeros}
-use Rattle.sched_reread.proofs.Retold.{held_form, held_sized}
+use Rattle.sched_reread.proofs.Retold.{held_form, held_sized, held_low, held_given, held_long}
 use Rattle.sched_reread.proofs.Stored.{store_held, store_gone}
 use Rattle.sched_reread.proofs.check.check.Goals as goal
 
@@ -22,3 +22,6 @@ returns-clause-value c = search (rules, store_gone)
 
 pub returns-clause-reply_after : goal.returns-clause-reply_after
 returns-clause-reply_after c = refl
+
+pub is_authenticator-right-requires : goal.is_authenticator-right-requires
+is_authenticator-right-requires c = search (rules, held_low, held_given, held_long)
