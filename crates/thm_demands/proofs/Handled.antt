@@ -125,7 +125,7 @@ module _ (g : Settings) (t b p : List ℕ) (clock : ℕ) where
         discarded = λ z d e. judged z ∙ ap (answer_of p t) e;
         found_stale = λ z k e. judged z ∙ ap (answer_of p t) e;
         refusals = λ n e. let q = number_of n e in (rw q.0 (refusal_one g t b q.1), q.0);
-        discards = λ d e. let x = verdict_of_lem (A.Discarded d) e in (among_of _ d _ x (verdict-among g p clock (signed_by g.secret p)), x);
+        discards = λ d e. let x = verdict_of_lem (A.Discarded d) e in (among_of _ d (1 ∷ 2 ∷ 3 ∷ 4 ∷ 5 ∷ 6 ∷ []) x (verdict-among g p clock (signed_by g.secret p)), x);
         stale = λ k e. verdict_of_lem (A.Stale k) e;
         refused_kept = λ n e. kept (A.Refused n) e;
         discarded_kept = λ d e. kept (A.Discarded d) e;

@@ -109,7 +109,7 @@ slot_by : (g : Settings) (j : B.Job) (k : ℕ) (q t : List ℕ) (f h : Bool) →
     → Quit (λ (a : D.Answer). ComesTo g j q a (P.Match k)) t (cond f (cond h t (commit_table q j.marks t)) t)
     (cond f (cond h (going (match_job j k q t)) (commit_move j q t)) (done (A.Discarded 1)))
 slot_by g j k q t true true e = tt
-slot_by g j k q t true false e = commit_quits _ j q t (commit_table q j.marks t)
+slot_by g j k q t true false e = commit_quits (λ x. ComesTo g j q x (P.Match k)) j q t (commit_table q j.marks t)
 slot_by g j k q t false h e = (refl, (e, refl), refl, refl)
 
 slot_quits : (g : Settings) (j : B.Job) (k : ℕ) (q t : List ℕ) → Quit (λ (a : D.Answer). ComesTo g j q a (P.Match k)) t (slot_table g j k q t) (slot_move g j k q t)

@@ -1,0 +1,13 @@
+-- `sched_step::moves::worked` meets its contract: the job read is one of ours, so it can be moved.
+use borrow.Author.Rules.{rules}
+use Rattle.sched_step.proofs.Moving.{job_fits, read_moved, read_table}
+use Rattle.sched_step.proofs.moves.worked.Goals as goal
+
+pub step-requires : goal.step-requires
+step-requires c = (search (rules, job_fits), search rules, search rules, search rules)
+
+pub returns-clause-value : goal.returns-clause-value
+returns-clause-value c = search (rules, read_moved)
+
+pub returns-clause-t_after : goal.returns-clause-t_after
+returns-clause-t_after c = search (rules, read_table)
