@@ -2,7 +2,7 @@
 ghost use Rattle.std.specs.Prelude.{◌≡◌, cond, ◌&&◌, ◌+◌, leb, length, replicate};
 ghost use Rattle.octet_numbers.specs.Runs.{write, equal_bytes};
 ghost use Rattle.octet_runs.specs.Compared.{same_text, pairs_compared};
-ghost use Rattle.probe.specs.Probe.{answer, written, inside, digest_room};
+ghost use Rattle.probe_laws.specs.Probe.{answer, written, inside, digest_room};
 
 // Whether n bytes from place at on lie in len bytes.
 pub fn lies_in(len: usize, at: usize, n: usize) -> bool

@@ -7,7 +7,7 @@ mod numbers;
 ghost use Rattle.std.specs.Prelude.{◌≡◌, ◌≤◌, length};
 ghost use Rattle.md5_ops.specs.Md5.{md5};
 ghost use Rattle.md5_hmac.specs.Hmac.{hmac};
-ghost use Rattle.probe.specs.Probe.{answer, written, digest_room, cut_ok};
+ghost use Rattle.probe_laws.specs.Probe.{answer, written, digest_room, cut_ok};
 
 // MD5 of a message in one piece.
 #[unsafe(no_mangle)]

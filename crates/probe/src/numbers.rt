@@ -2,7 +2,7 @@
 ghost use Rattle.std.specs.Prelude.{◌≡◌, cond};
 ghost use Rattle.octet_numbers.specs.Numbers.{be, be_bytes};
 ghost use Rattle.octet_numbers.specs.Runs.{write};
-ghost use Rattle.probe.specs.Probe.{answer, written, number_ok, put_ok};
+ghost use Rattle.probe_laws.specs.Probe.{answer, written, number_ok, put_ok};
 
 use crate::bytes::lies_in;
 

@@ -1,7 +1,7 @@
 -- What the exports on signatures do not refuse: p is the packet, n its Length.
 -- Assumes nothing.
 use Rattle.std.specs.Prelude.{Bool, ◌&&◌, List, ℕ, ◌+◌, leb, length}
-use Rattle.probe.specs.Probe.{digest_room}
+use Rattle.probe_laws.specs.Probe.{digest_room}
 
 -- an authenticator: Length from 20 to the bytes given
 abbrev pub auth_ok : ℕ → List ℕ → List ℕ → List ℕ → Bool

@@ -5,7 +5,7 @@ mod verdict; // verdict.rt: the verdict on a request, in numbers
 
 ghost use Rattle.std.specs.Prelude.{◌≡◌, ◌≤◌, length};
 ghost use Rattle.packet_auth.specs.Signing.{zeros, authenticator, message_authenticator};
-ghost use Rattle.probe.specs.Probe.{answer, written};
+ghost use Rattle.probe_laws.specs.Probe.{answer, written};
 ghost use Rattle.probe_packets.specs.Refused.{auth_ok, mac_ok, blocks_ok};
 
 // The authenticator of a packet of Length n: auth is zeros for a request.

@@ -1,7 +1,7 @@
 -- `probe::probe_hmac` meets its contract: refused where there is no room, else the digest stands in the whole of it.
 use borrow.Author.Rules.{rules}
 use Rattle.md5_hmac.proofs.Runs.{length-hmac}
-use Rattle.probe.proofs.Answers.{refused, keeps, done, writes, room_no, room_yes, copied}
+use Rattle.probe_laws.proofs.Answers.{refused, keeps, done, writes, room_no, room_yes, copied}
 use Rattle.probe.proofs.probe_hmac.Goals as goal
 
 pub returns-then-out-ne16-clause-value : goal.returns-then-out-ne16-clause-value

@@ -1,6 +1,6 @@
 -- `probe::probe_md5_cut` meets its contract: refused where there is no room or no such pieces, else the digest stands in the whole of it.
 use borrow.Author.Rules.{rules}
-use Rattle.probe.proofs.Answers.{refused, keeps, done, writes, cut_room, cut_order, cut_long, cut_yes, copied}
+use Rattle.probe_laws.proofs.Answers.{refused, keeps, done, writes, cut_room, cut_order, cut_long, cut_yes, copied}
 use Rattle.md5_ops.proofs.After.{length-md5}
 use Rattle.probe.proofs.probe_md5_cut.Goals as goal
 

@@ -2,7 +2,7 @@
 use borrow.Author.Rules.{rules}
 use borrow.Author.Tests.{le-leb, lt-leb}
 use Rattle.packet_auth.proofs.Messages.{length-authenticator}
-use Rattle.probe.proofs.Answers.{refused, keeps, done, writes, room_no, room_yes, copied}
+use Rattle.probe_laws.proofs.Answers.{refused, keeps, done, writes, room_no, room_yes, copied}
 use Rattle.probe_packets.proofs.Tests.{not_first, not_second, both}
 use Rattle.probe_packets.proofs.probe_blocks.Goals as goal
 

@@ -1,7 +1,7 @@
 -- `probe::bytes::probe_compare` meets its contract: it says what the comparison says.
 use mathlib.Core.Path.{ap}
 use Rattle.octet_runs.specs.declared.Compared.{Compared}
-use Rattle.probe.proofs.Answers.{says_same, says_other}
+use Rattle.probe_laws.proofs.Answers.{says_same, says_other}
 use Rattle.probe.proofs.bytes.probe_compare.Goals as goal
 
 pub returns-then-c-clause-value : goal.returns-then-c-clause-value

@@ -1,6 +1,6 @@
 -- `probe::bytes::probe_copy` meets its contract: refused where the bytes do not lie in the run.
 use borrow.Author.Rules.{rules}
-use Rattle.probe.proofs.Answers.{refused, keeps, done, writes, lies, lies_fits}
+use Rattle.probe_laws.proofs.Answers.{refused, keeps, done, writes, lies, lies_fits}
 use Rattle.probe.proofs.bytes.probe_copy.Goals as goal
 
 pub copy-requires : goal.copy-requires

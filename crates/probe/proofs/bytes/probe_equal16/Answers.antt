@@ -1,6 +1,6 @@
 -- `probe::bytes::probe_equal16` meets its contract: 16 bytes are the whole of each run.
 use borrow.Author.Rules.{rules}
-use Rattle.probe.proofs.Answers.{first_room, second_room, both_rooms, whole_runs, says_same, says_other}
+use Rattle.probe_laws.proofs.Answers.{first_room, second_room, both_rooms, whole_runs, says_same, says_other}
 use Rattle.probe.proofs.bytes.probe_equal16.Goals as goal
 
 pub returns-then-a-ne16 : goal.returns-then-a-ne16

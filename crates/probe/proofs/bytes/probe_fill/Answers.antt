@@ -1,6 +1,6 @@
 -- `probe::bytes::probe_fill` meets its contract: refused where the bytes do not lie in the run.
 use borrow.Author.Rules.{rules}
-use Rattle.probe.proofs.Answers.{refused, keeps, done, writes, lies, lies_fits}
+use Rattle.probe_laws.proofs.Answers.{refused, keeps, done, writes, lies, lies_fits}
 use Rattle.probe.proofs.bytes.probe_fill.Goals as goal
 
 pub fill-requires : goal.fill-requires

@@ -1,6 +1,6 @@
 -- `probe::numbers::probe_number` meets its contract: refused at another width or past the end, else the number is read.
 use borrow.Author.Rules.{rules}
-use Rattle.probe.proofs.Answers.{refused, keeps, done, writes, lies_room, number_two, number_four, number_other, number_outside, read_as}
+use Rattle.probe_laws.proofs.Answers.{refused, keeps, done, writes, lies_room, number_two, number_four, number_other, number_outside, read_as}
 use Rattle.probe.proofs.numbers.probe_number.Goals as goal
 
 pub be16-requires : goal.be16-requires

@@ -1,6 +1,6 @@
 -- `probe::numbers::probe_put` meets its contract: refused at another width, past the end or where the number is too large, else all of it is written.
 use borrow.Author.Rules.{rules}
-use Rattle.probe.proofs.Answers.{refused, keeps, done, writes, lies_room, put_two, put_four, put_large, put_outside, put_other, put_as}
+use Rattle.probe_laws.proofs.Answers.{refused, keeps, done, writes, lies_room, put_two, put_four, put_large, put_outside, put_other, put_as}
 use Rattle.probe.proofs.numbers.probe_put.Goals as goal
 
 pub put_be32-requires : goal.put_be32-requires

@@ -12,7 +12,7 @@ use Rattle.octet_numbers.specs.Numbers.{be, be_bytes}
 use Rattle.octet_numbers.specs.Runs.{part, write, equal_bytes}
 use Rattle.octet_numbers.proofs.Part.{part_whole}
 use Rattle.octet_numbers.proofs.Write.{write_whole}
-use Rattle.probe.specs.Probe.{digest_room, cut_ok, inside, number_ok, put_ok}
+use Rattle.probe_laws.specs.Probe.{digest_room, cut_ok, inside, number_ok, put_ok}
 
 -- b is the test of a call
 module _ (b : Bool) where
