@@ -43,7 +43,8 @@ pub fn mark_all(t: &[u8], area: &[u8], c: Criteria) -> [u8; 64]
             if !table_slots::has_mark(s) {
                 break 'slot;
             }
-            if !first::passes(s, sieve) {
+            let passed = first::passes(s, sieve);
+            if !passed {
                 break 'slot;
             }
             let mut i = 0;

@@ -5,7 +5,7 @@ use Rattle.table_criteria.proofs.Walk.{walk_starts, walk-next}
 use Rattle.table_match.proofs.Turns.{turn_free, turn_sieved, turn_fails, turn_dead, turn-meets, turns_end}
 use borrow.Author.Rules.{rules}
 use Rattle.table_match.proofs.mark_all.Goals as goal
-use Rattle.table_match.proofs.mark_all.Goals.{then-not-has_mark, else-not-has_mark+then-not-passes, else-not-has_mark+else-not-passes+then-loop-i-test+then-not-meets_one, else-not-has_mark+else-not-passes+else-loop-i-test+then-not-is_live, else-not-has_mark+else-not-passes+else-loop-i-test+else-not-is_live}
+use Rattle.table_match.proofs.mark_all.Goals.{then-not-has_mark, else-not-has_mark+then-not-passed, else-not-has_mark+else-not-passed+then-loop-i-test+then-not-meets_one, else-not-has_mark+else-not-passed+else-loop-i-test+then-not-is_live, else-not-has_mark+else-not-passed+else-loop-i-test+else-not-is_live}
 
 pub loop-k-init : goal.loop-k-init
 loop-k-init c = search (rules, counted_is, marks_start)
@@ -20,10 +20,10 @@ pub loop-k-preserved : goal.loop-k-preserved
 loop-k-preserved c =
     elim c.if-not-has_mark.branch [
       | then-not-has_mark w ↦ search (rules, turn_free)
-      | else-not-has_mark+then-not-passes w ↦ search (rules, turn_sieved)
-      | else-not-has_mark+else-not-passes+then-loop-i-test+then-not-meets_one w ↦ search (rules, turn_fails)
-      | else-not-has_mark+else-not-passes+else-loop-i-test+then-not-is_live w ↦ search (rules, turn_dead)
-      | else-not-has_mark+else-not-passes+else-loop-i-test+else-not-is_live w ↦ search (rules, turn-meets)
+      | else-not-has_mark+then-not-passed w ↦ search (rules, turn_sieved)
+      | else-not-has_mark+else-not-passed+then-loop-i-test+then-not-meets_one w ↦ search (rules, turn_fails)
+      | else-not-has_mark+else-not-passed+else-loop-i-test+then-not-is_live w ↦ search (rules, turn_dead)
+      | else-not-has_mark+else-not-passed+else-loop-i-test+else-not-is_live w ↦ search (rules, turn-meets)
     ]
 
 pub returns : goal.returns
