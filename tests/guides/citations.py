@@ -5,9 +5,9 @@ from pathlib import Path
 NUMBERS = r"\d+(?:(?:, and | and |, )\d+)*"
 DECISIONS = re.compile(rf"DECISIONS(?:\.md)?`?,? ({NUMBERS})")
 SPAN = re.compile(r"`([^`]+)`")
-NAME = re.compile(r"[A-Za-z0-9][\w′-]*")
+NAME = re.compile(r"[A-Za-z0-9][\w'-]*")
 BETWEEN = re.compile(r"(?:[\s,(]|and )*")  # what may stand between a file and the names that stand in it
-WORDS = {"requires", "ensures", "cond", "eqb", "ltb", "leb", "subℕ", "abbrev", "unfoldable", "pub", "record"}  # of the language: no citations
+WORDS = {"requires", "ensures", "result", "cond", "eqb", "ltb", "leb", "sub_ℕ", "abbrev", "unfoldable", "pub", "record"}  # of the language: no citations
 
 # how a name is defined, by the ending of its file
 DEFINED = {
@@ -23,7 +23,7 @@ class Repository:
     def __init__(self, root):
         self.root = Path(root)
         lines = (self.root / "crates.txt").read_text().splitlines()
-        self.crates = [line.split(":")[0] for line in lines if line and not line.startswith("#")]
+        self.crates = [line.split(":")[0].removesuffix(" staticlib") for line in lines if line and not line.startswith("#")]
 
     def path(self, name):
         """The file or folder of this name, of the root or of crates/; None where there is none."""
