@@ -9,21 +9,26 @@ import tarfile
 from tests import ROOT
 
 FUNCTION = re.compile(r'\s*(?:#\[[^\]]*\]\s*)?(pub )?(?:extern "C" )?fn (\w+)')
-METHODS = re.compile(r"impl (?:<[^>]*> )?(\w+)")
+METHODS = re.compile(r"impl(?:<[^>]*>)? (\w+)")
 CLAUSE = re.compile(r"\s+(requires|ensures)\b")
+
+
+def read(name):
+    """Whether contracts or definitions stand there; rt leaves what is no text beside them, in crates/*/out."""
+    return name.endswith((".rt", ".antt")) and name.split("/")[2] in ("src", "specs")
 
 
 def at_revision(revision):
     """The files of all crates then, by path."""
     packed = subprocess.run(["git", "archive", revision, "crates"], cwd=ROOT, check=True, capture_output=True).stdout
     with tarfile.open(fileobj=io.BytesIO(packed)) as files:
-        return {file.name: files.extractfile(file).read().decode() for file in files if file.isfile()}
+        return {file.name: files.extractfile(file).read().decode() for file in files if file.isfile() and read(file.name)}
 
 
 def at_hand():
     """The same of the files as they are."""
-    kept = [path for path in (ROOT / "crates").glob("*/*/**/*") if path.is_file()]
-    return {str(path.relative_to(ROOT)): path.read_text() for path in kept}
+    kept = {str(path.relative_to(ROOT)): path for path in (ROOT / "crates").glob("*/*/**/*") if path.is_file()}
+    return {name: path.read_text() for name, path in kept.items() if read(name)}
 
 
 def contracts(files):
