@@ -24,6 +24,7 @@ WRONG = [
     "`made/specs/Facts.antt` `fac`", "`made/specs/Facts.antt` `said`", "`made/specs/Facts.antt` `spoken`", "`made/specs/Facts.antt`; `fact`",
     "`made/src/lib.rt` `helper`", "`made/src/lib.rt` `spok`", "`made::helper`", "`made::inner::act`", "`made::Thing::helper`", "`made::Think::move_on`", "`maid::act`",
     "`docs/DECISIONS.md`, 1 and 7", "DECISIONS 3", "docs/DECISIONS.md, 1, 2, and 3", "`tests/some_cases.py` `inside`", "`make tea`", "`made/specs/Facts.antt` `fact`, `none`",
+    "`made/specs/Facts.antt` `fact'`",
 ]
 NO_CITATION = ["`x.now`", "`result`", "`requires`", "words alone"]
 

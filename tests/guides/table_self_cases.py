@@ -20,13 +20,13 @@ BROKEN = [
     ("| a | b |\n|---|---|\n| x | `y | z` |\n", 3), ("| a | b |\n|---|\n| x | y |\n", 2), ("| a | b |\n| x | y |\n| x | y |\n", 1),
     ("| a | b |\n|---|---|\n", 1),
 ]
-LIB = "ghost use a.{b};\npub fn act(x: u8) -> u8\n    requires { x }\n    ensures { y }\n{\n    first(x)\n}\n"
+LIB = "ghost use a.{b};\npub fn act(x: u8) -> u8\n    requires { x }\n    ensures value { y }\n{\n    first(x)\n}\n"
 EDITS = {
     "code": "file: src/lib.rt\nold: first(x)\nnew: last(x)\n",
     "code-twice": "file: src/lib.rt\nold: first(x)\nnew: next(x)\nold: next(x)\nnew: last(x)\n",
     "code-and-proof": "file: src/lib.rt\nold: (x)\nnew: (1)\nfile: proofs/Laws.antt\nold: law\nnew: other\n",
     "promise": "file: src/lib.rt\nold: { y }\nnew: { z }\n",
-    "promise-and-import": "file: src/lib.rt\nold: a.{b}\nnew: a.{b, c}\nold: ensures { y }\nnew: ensures { z }\n",
+    "promise-and-import": "file: src/lib.rt\nold: a.{b}\nnew: a.{b, c}\nold: ensures value { y }\nnew: ensures value { z }\n",
     "need": "file: src/lib.rt\nold: { x }\nnew: { z }\n",
     "claim": "# a comment\nfile: specs/Facts.antt\nold: fact\nnew: other\n",
     "claim-and-proof": "file: specs/Facts.antt\nold: fact\nnew: other\nfile: proofs/Laws.antt\nold: law\nnew: other\n",

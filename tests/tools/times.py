@@ -1,8 +1,10 @@
 """Writes the first table of docs/TIMES.md from what rt said: python3 -m tests.tools.times HOW [FILE...]
 
-HOW tells how it was measured, as "two at a time, nothing else on the cores". A FILE is what `make test`, `rt ci`, `rt must-fail`, `rt prove` or
-`rt check` printed. Where none is named, what rt left is read: target/log and target/must-fail; but a later run of rt, as that of `make test` for
-its libraries, overwrites the first with "unchanged". What was not measured gets a dash. All after the first table of the file stays.
+HOW tells how it was measured, as "two at a time, nothing else on the cores". A FILE is what rt printed. Where none is named, what rt left is read:
+target/log and target/must-fail. What was not measured gets a dash. All after the first table of the file stays.
+
+These are the words and the files of the older kit. Today's rt tells no seconds and leaves no such files, so nothing is measured by this any more;
+and it tries an edit over what the crate's own check proved.
 """
 import datetime
 import re
@@ -11,6 +13,7 @@ import textwrap
 from pathlib import Path
 
 from tests import ROOT
+from tests.guides.citations import Repository
 
 PLACE = "docs/TIMES.md"
 HEAD = ["crate", "seconds to check", "must-fail edits", "seconds of its edits"]
@@ -67,7 +70,7 @@ def main(how, *names):
     files = [Path(name) for name in names] or [*ROOT.glob("target/log/*.out"), *ROOT.glob("target/must-fail/*/*.out")]
     if not files:
         sys.exit("times: rt left nothing under target/; name a file with what it printed")
-    crates = [line.split(":")[0] for line in (ROOT / "crates.txt").read_text().splitlines() if line and not line.startswith("#")]
+    crates = Repository(ROOT).crates
     counts = {crate: len(list(ROOT.glob(f"crates/{crate}/must-fail/*.edit"))) for crate in crates}
     date = datetime.date.fromtimestamp(max(file.stat().st_mtime for file in files))
     rows = table(crates, counts, "".join(file.read_text() for file in files))
