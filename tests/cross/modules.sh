@@ -10,7 +10,7 @@ tests/tools/kit.sh target/cross/kit 'for word; do case $word in *.bc) cp "$word"
 exec "$clang" "$@"'
 for name in capi probe; do
     rm -f "$kept"
-    RATTLE_HOME=$PWD/target/cross/kit rt staticlib "$name"
+    RT=$PWD/target/cross/kit/bin/rt tests/tools/staticlib.sh "$name"
     [ -s "$kept" ] || { echo "cross: rt's clang was given no module of $name" >&2; exit 1; }
     "$(tests/tools/kit.sh)" --target=x86_64-unknown-linux-gnu -S -emit-llvm -Xclang -disable-llvm-passes -x ir "$kept" -o "target/cross/$name.ll"
 done

@@ -8,9 +8,9 @@ cd "$(dirname "$0")/../.."
 mkdir -p target/fuzz
 if [ $# -eq 0 ]; then
     tests/fuzz/kit.sh target/fuzz/kit
-    RATTLE_HOME=$PWD/target/fuzz/kit rt staticlib capi
+    RT=$PWD/target/fuzz/kit/bin/rt tests/tools/staticlib.sh capi
     mv target/staticlib/libcapi.a target/fuzz/libcapi-counted.a
-    rt staticlib capi
+    tests/tools/staticlib.sh capi
     set -- target/fuzz/libcapi-counted.a target/staticlib/libcapi.a
 fi
 

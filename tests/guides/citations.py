@@ -23,7 +23,7 @@ class Repository:
     def __init__(self, root):
         self.root = Path(root)
         lines = (self.root / "crates.txt").read_text().splitlines()
-        self.crates = [line.split(":")[0] for line in lines if line and not line.startswith("#")]
+        self.crates = [line.split(":")[0].removesuffix(" staticlib") for line in lines if line and not line.startswith("#")]
 
     def path(self, name):
         """The file or folder of this name, of the root or of crates/; None where there is none."""
