@@ -9,7 +9,7 @@ export DESTDIR
 demo:
 	@tests/gate/demo.sh
 
-# the gate: layout, proofs, must-fail edits, and tests outside the prover
+# the gate: rt ci (layout, proofs, must-fail edits), and tests outside the prover
 test:
 	@tests/gate/gate.sh
 

@@ -14,7 +14,7 @@ if [ $# -eq 0 ]; then
     for name in probe probe_packets capi; do
         log=target/bench/$name.log
         echo "bench: rt builds $name, which it proves first where that was not done before; it reports to $log"
-        rt staticlib "$name" >"$log" 2>&1 || { cat "$log"; exit 1; }
+        tests/tools/staticlib.sh "$name" >"$log" 2>&1 || { cat "$log"; exit 1; }
         set -- "$@" "target/staticlib/lib$name.a"
     done
 fi

@@ -15,7 +15,7 @@ if [ "$mode" = uninstall ]; then
     exit
 fi
 if [ -z "$archive" ]; then
-    rt staticlib capi
+    tests/tools/staticlib.sh capi
     archive=target/staticlib/libcapi.a
 fi
 mkdir -p "$place/include" "$place/lib/pkgconfig"

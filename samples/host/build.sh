@@ -6,7 +6,7 @@ for tool in rt gcc; do
     command -v "$tool" >/dev/null || { echo "host: $tool is not installed" >&2; exit 1; }
 done
 echo 'host: the library is proved first; from nothing that takes some minutes'
-tests/tools/proved.sh rt staticlib capi || exit 1
+tests/tools/proved.sh tests/tools/staticlib.sh capi || exit 1
 mkdir -p target/host
 gcc -std=c99 -D_POSIX_C_SOURCE=200809L -Wall -Wextra -O2 -o target/host/fumbokeri-host \
     samples/host/*.c samples/show.c target/staticlib/libcapi.a || exit 1

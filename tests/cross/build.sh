@@ -23,7 +23,8 @@ archived() { # MODULE HEADER ARCHIVE FUNCTION...
     # of a C library only the names of the numbers' types are wanted; gcc's own headers have them, the kit's clang has no headers
     compiled -ffreestanding -nostdinc -isystem "$($gcc -print-file-name=include)" -I. -S -emit-llvm "$room/$name.c" -o "$room/$name-calls.ll"
     python3 tests/cross/module.py like "$room/$name-calls.ll" "$module" >"$room/$name.ll"
-    compiled -ffunction-sections -fdata-sections -mllvm -trap-unreachable -mllvm -no-trap-after-noreturn -fPIC -O3 -c -x ir \
+    compiled -ffunction-sections -fdata-sections -mllvm -trap-unreachable -mllvm -no-trap-after-noreturn -mllvm -no-x86-call-frame-opt \
+        -mllvm -disable-machine-licm -mllvm -disable-postra-machine-licm -mllvm -sink-common-insts=false -fPIC -O3 -c -x ir \
         "$room/$name.ll" -o "$room/$name.o"
     "${clang%clang}llvm-ar" rcsD "$room/$name.a" "$room/$name.o"
 }

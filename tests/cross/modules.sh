@@ -4,13 +4,16 @@
 set -eu
 cd "$(dirname "$0")/../.."
 mkdir -p target/cross
-kept=$PWD/target/cross/kept.bc
+room=$(mktemp -d)
+trap 'rm -rf "$room"' EXIT
+trap 'exit 1' HUP INT TERM
+kept=$room/kept.bc
 # shellcheck disable=SC2016 # the copy's clang is what fills in the words
-tests/tools/kit.sh target/cross/kit 'for word; do case $word in *.bc) cp "$word" "'"$kept"'" ;; esac; done
+tests/tools/kit.sh "$room/kit" 'for word; do case $word in *.bc) cp "$word" "'"$kept"'" ;; esac; done
 exec "$clang" "$@"'
 for name in capi probe; do
     rm -f "$kept"
-    RATTLE_HOME=$PWD/target/cross/kit rt staticlib "$name"
+    RT=$room/kit/bin/rt tests/tools/staticlib.sh "$name"
     [ -s "$kept" ] || { echo "cross: rt's clang was given no module of $name" >&2; exit 1; }
     "$(tests/tools/kit.sh)" --target=x86_64-unknown-linux-gnu -S -emit-llvm -Xclang -disable-llvm-passes -x ir "$kept" -o "target/cross/$name.ll"
 done

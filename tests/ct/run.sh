@@ -5,10 +5,8 @@ set -u
 cd "$(dirname "$0")/../.." || exit 1
 tests/tools/packages.sh ct rt gcc python3 -- valgrind 'command -v valgrind' || exit 1
 if [ $# -eq 0 ]; then
-    for name in probe probe_packets capi; do
-        rt staticlib "$name" || exit 1
-        set -- "$@" "target/staticlib/lib$name.a"
-    done
+    tests/tools/staticlib.sh probe probe_packets capi || exit 1
+    set -- target/staticlib/libprobe.a target/staticlib/libprobe_packets.a target/staticlib/libcapi.a
 fi
 mkdir -p target/ct
 # -no-pie: addresses are the same in each run. -fno-builtin: the memcmp that is to be found out stays a call.

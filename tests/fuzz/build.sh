@@ -7,10 +7,13 @@ set -eu
 cd "$(dirname "$0")/../.."
 mkdir -p target/fuzz
 if [ $# -eq 0 ]; then
-    tests/fuzz/kit.sh target/fuzz/kit
-    RATTLE_HOME=$PWD/target/fuzz/kit rt staticlib capi
+    room=$(mktemp -d)
+    trap 'rm -rf "$room"' EXIT
+    trap 'exit 1' HUP INT TERM
+    tests/fuzz/kit.sh "$room/kit"
+    RT=$room/kit/bin/rt tests/tools/staticlib.sh capi
     mv target/staticlib/libcapi.a target/fuzz/libcapi-counted.a
-    rt staticlib capi
+    tests/tools/staticlib.sh capi
     set -- target/fuzz/libcapi-counted.a target/staticlib/libcapi.a
 fi
 

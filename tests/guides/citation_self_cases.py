@@ -5,7 +5,7 @@ from pathlib import Path
 from tests.guides.citations import Repository, citations, indexed, paragraphs, plain, quotations, row_fault, rows
 
 FILES = {
-    "crates.txt": "# level 0\nmade:\nother staticlib: made\n",
+    "crates.txt": "# level 0\nmade:\nother: made\nfor_c staticlib: made other\n",
     "Makefile": "demo:\n\ttrue\n",
     "docs/DECISIONS.md": "1. **One.** As 7. **no entry**\n2. **Two.**\n",
     "crates/made/specs/Facts.antt": "-- spoken : of\nunfoldable pub fact : ℕ\nfact = said\n\npub record Rec (a : ℕ) : Type 0 where\n  pub field : a ≡ 0\n",
@@ -15,12 +15,12 @@ FILES = {
     "tests/some_cases.py": "LIMIT = 3\n\n\ndef group(probe, tally):\n    inside = 1\n",
 }
 RIGHT = [
-    "`made`", "`other`", "`made/wrong-way`", "`made/specs/Facts.antt` `fact`, `Rec` and `field`", "`crates/made/src/lib.rt`", "`made/src/lib.rt` (`Thing`, `act`)",
+    "`made`", "`other`", "`for_c`", "`made/wrong-way`", "`made/specs/Facts.antt` `fact`, `Rec` and `field`", "`crates/made/src/lib.rt`", "`made/src/lib.rt` (`Thing`, `act`)",
     "`made::act`", "`made::Thing`", "`made::inner::helper`", "`made::Thing::move_on`", "`docs/DECISIONS.md`, 1 and 2", "DECISIONS 2", "docs/DECISIONS.md, 1, 2",
     "`tests/`", "`tests/some_cases.py` `group`, `LIMIT`", "`make demo`",
 ]
 WRONG = [
-    "`maid`", "`made/wrong-turn`", "`other/wrong-way`", "`made/*`", "`tests/no_cases.py`", "`no/such`", "`made/nowhere/`", "`tests/some_cases.py/`",
+    "`maid`", "`staticlib`", "`made/wrong-turn`", "`other/wrong-way`", "`made/*`", "`tests/no_cases.py`", "`no/such`", "`made/nowhere/`", "`tests/some_cases.py/`",
     "`made/specs/Facts.antt` `fac`", "`made/specs/Facts.antt` `said`", "`made/specs/Facts.antt` `spoken`", "`made/specs/Facts.antt`; `fact`",
     "`made/src/lib.rt` `helper`", "`made/src/lib.rt` `spok`", "`made::helper`", "`made::inner::act`", "`made::Thing::helper`", "`made::Think::move_on`", "`maid::act`",
     "`docs/DECISIONS.md`, 1 and 7", "DECISIONS 3", "docs/DECISIONS.md, 1, 2, and 3", "`tests/some_cases.py` `inside`", "`make tea`", "`made/specs/Facts.antt` `fact`, `none`",

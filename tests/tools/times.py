@@ -1,10 +1,8 @@
-"""Writes the first table of docs/TIMES.md from what rt said: python3 -m tests.tools.times HOW [FILE...]
+"""Writes the first table of docs/TIMES.md from what rt said: python3 -m tests.tools.times HOW FILE...
 
-HOW tells how it was measured, as "two at a time, nothing else on the cores". A FILE is what rt printed. Where none is named, what rt left is read:
-target/log and target/must-fail. What was not measured gets a dash. All after the first table of the file stays.
-
-These are the words and the files of the older kit. Today's rt tells no seconds and leaves no such files, so nothing is measured by this any more;
-and it tries an edit over what the crate's own check proved.
+HOW tells how it was measured, as "two at a time, nothing else on the cores". A FILE is what an rt printed that tells seconds, as
+'rt: CRATE proved (9 s)' and 'rt: must-fail CRATE/EDIT: refused, as it must be (8 s)': those up to 2026-11 did, and the rt of today tells none, so its
+words give a table of dashes. What was not measured gets a dash. All after the first table of the file stays.
 """
 import datetime
 import re
@@ -67,9 +65,7 @@ def written(old, new):
 
 
 def main(how, *names):
-    files = [Path(name) for name in names] or [*ROOT.glob("target/log/*.out"), *ROOT.glob("target/must-fail/*/*.out")]
-    if not files:
-        sys.exit("times: rt left nothing under target/; name a file with what it printed")
+    files = [Path(name) for name in names]
     crates = Repository(ROOT).crates
     counts = {crate: len(list(ROOT.glob(f"crates/{crate}/must-fail/*.edit"))) for crate in crates}
     date = datetime.date.fromtimestamp(max(file.stat().st_mtime for file in files))
@@ -79,6 +75,6 @@ def main(how, *names):
 
 
 if __name__ == "__main__":
-    if len(sys.argv) < 2:
+    if len(sys.argv) < 3:
         sys.exit(__doc__)
     main(*sys.argv[1:])
