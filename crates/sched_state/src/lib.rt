@@ -1,9 +1,8 @@
 // The scheduler (document 01's desk): four requests in work, each in small steps. These are the words in which its calls are defined (specs/Calls.antt). The calls
 // themselves take it as C holds it, in arrays that are lent (crate sched_rows).
-
-// Four jobs; the secret and the gate's identity, fixed when it is made: the first secret_size and nas_id_size bytes count.
 #![tactic(auto)]
 
+// Four jobs; the secret and the gate's identity, fixed when it is made: the first secret_size and nas_id_size bytes count.
 #[derive(Clone, Copy)]
 pub struct Scheduler {
     pub jobs: [sched_job::Job; 4],

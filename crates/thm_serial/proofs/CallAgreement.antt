@@ -1,32 +1,29 @@
--- Every call on the scheduler agrees with the serial execution. Opening and a step have files of their own. A drop frees the job and strikes its
--- note; a start and an end change the table and send every job past Check back to slot 0, and where they are refused they change nothing.
+-- Every call on the scheduler agrees with the serial execution. Opening, a step and a drop have files of their own; a start and an end change the table and send every job past Check back to slot 0, and where they are refused they change nothing.
 -- Assumes nothing.
 use mathlib.Core.Path.{◌≡◌, refl}
 use mathlib.Core.Bool.{Bool, true, false, cond}
 use mathlib.Core.List.{List, []}
 use Prim.Native.Nat.{ℕ}
-use borrow.Author.Tests.{eqb-true}
 use lib.Dec.{eqb}
-use lib.ListN.{length, set, length-set}
+use lib.ListN.{length}
 use Rattle.table_records.specs.Record.{Session}
 use Rattle.table_sessions.specs.declared.Inserted as I
 use Rattle.table_sessions.specs.declared.Inserted.TheVariants.{Slot, NotInserted}
 use Rattle.table_sessions.specs.declared.Removed as X
 use Rattle.table_sessions.specs.declared.Removed.TheVariants.{Gone, NotRemoved}
 use Rattle.table_sessions.specs.Session.{insert_answer, inserted_as, insert_table, remove_answer, removed_as, remove_table}
-use Rattle.sched_job.specs.Job.{free_job}
 use Rattle.sched_state.specs.declared.Scheduler as D
 use Rattle.sched_state.specs.declared.Outcome.TheVariants as O
-use Rattle.sched_state.specs.Scheduler.{settings_of, open_at, with_job}
+use Rattle.sched_state.specs.Scheduler.{settings_of, open_at}
 use Rattle.sched_state.specs.Refusals.{drop_refusal}
 use Rattle.sched_state.specs.Calls.{called, drop_called, started_as, start_called, ended_as, end_called}
 use Rattle.sched_state.specs.Runs.{Call, Open, Step, Drop, Start, End, World, did, call}
-use Rattle.thm_serial.specs.Serial.{Note, unnoted, serial_did, with_note, with_table, serial_drop, start_outcome, end_outcome, serial_call}
+use Rattle.thm_serial.specs.Serial.{Note, serial_did, with_table, serial_drop, start_outcome, end_outcome, serial_call}
 use Rattle.thm_serial.specs.Demand3.{finished}
 use Rattle.thm_serial.proofs.Invariant.{serial_of, flags, Tied}
-use Rattle.thm_serial.proofs.Refusals.{drop_admitted}
-use Rattle.thm_serial.proofs.Agreement.{Agree, unchanged, struck, restart-tied}
+use Rattle.thm_serial.proofs.Agreement.{Agree, unchanged, restart-tied}
 use Rattle.thm_serial.proofs.OpenAgreement.{open_agrees}
+use Rattle.thm_serial.proofs.DropAgreement.{by_drop}
 use Rattle.thm_serial.proofs.StepAgreement.{step_agrees}
 
 module _ (s : D.Scheduler) (t store : List ℕ) (ns : List Note) (h : Tied (record { scheduler = s; table = t; store = store }) ns) where
@@ -35,23 +32,9 @@ module _ (s : D.Scheduler) (t store : List ℕ) (ns : List Note) (h : Tied (reco
 
   -- ---- Drop
 
-  by_drop : (f : Bool) (j : ℕ) → eqb (drop_refusal (open_at s.jobs) j) 0 ≡ f
-      → Agree (length store) (did (cond f (called (with_job s j free_job) O.Dropped) (called s (O.Refused (drop_refusal (open_at s.jobs) j)))) [] t store)
-      (cond f (serial_did O.Dropped [] (with_note (serial_of before ns) j unnoted)) (serial_did (O.Refused (drop_refusal (open_at s.jobs) j)) [] (serial_of before ns)))
-  by_drop true j e =
-      let o = drop_admitted (open_at s.jobs) (length store) j (eqb-true _ 0 e) in
-      record {
-        out_is = refl;
-        notes = set ns j unnoted;
-        serial_is = refl;
-        tied = record { made = h.made; count = simp length-set h.count; notes = simp length-set h.notes; each = struck s t store ns h j o };
-        size = refl;
-      }
-  by_drop false j e = unchanged s t store ns h (O.Refused (drop_refusal (open_at s.jobs) j)) []
-
   drop_agrees : (j : ℕ) (f : Bool) → Agree (length store) (call (Drop j) before) (serial_call (Drop j) f (length store) (serial_of before ns))
   unfolding call serial_call drop_called serial_drop
-  drop_agrees j f = rw (← (flags (settings_of s) s.jobs ns store t h.each)) (by_drop (eqb (drop_refusal (open_at s.jobs) j) 0) j refl)
+  drop_agrees j f = rw (← (flags (settings_of s) s.jobs ns store t h.each)) (by_drop s t store ns h (eqb (drop_refusal (open_at s.jobs) j) 0) j refl)
 
   -- ---- Start and End
 

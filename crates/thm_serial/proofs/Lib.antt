@@ -9,7 +9,9 @@ pub mod Invariant
 pub mod Refusals
 pub mod Agreement
 pub mod StepAgreement
+pub mod OpenedJob
 pub mod OpenAgreement
+pub mod DropAgreement
 pub mod CallAgreement
 pub mod Whole
 pub mod Potential

@@ -24,7 +24,7 @@ use Rattle.sched_job.specs.declared.Stage.TheVariants.{Free, Hash, Check, Match}
 use Rattle.sched_job.specs.Job.{first_job, restarted_at, restarted, Placed, JobOurs}
 use Rattle.sched_reread.specs.Reread.{holds_passed}
 use Rattle.sched_job.specs.Moves.{going, done, hash_job, checked_as, check_move, match_job, commit_move, slot_move, moved_at, moved}
-use Rattle.thm_serial.proofs.OpenAgreement.{some_block}
+use Rattle.thm_serial.proofs.OpenedJob.{some_block}
 
 -- ---- a job; n is the secret's length
 
