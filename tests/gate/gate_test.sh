@@ -46,7 +46,7 @@ ci:"$repo")
     echo "${CI_LAST:-3 passed, 0 failed}"
     exit "${CI_STATUS:-0}"
     ;;
-lib:"$repo"/crates/*)
+"lib --cpu=x86-64:$repo"/crates/*)
     mkdir -p out
     echo 'int made;' | gcc -fPIC -c -x c - -o out/made.o && ar rc "out/lib${PWD##*/}.a" out/made.o
     exit "${LIB_STATUS:-0}"
