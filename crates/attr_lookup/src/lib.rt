@@ -26,15 +26,15 @@ pub fn has(count: &[u8; 256], kind: u8) -> bool
 pub fn end_of(ends: &[u16; 256], kind: u8) -> usize
     ensures { (result ≡ get_or ends.now kind 0) × (result ≤ 65535) }
 {
-    octet_numbers::wide16(ends[kind as usize])
+    usize::from(ends[kind as usize])
 }
 
 // Where it starts.
 pub fn start_of(ends: &[u16; 256], sizes: &[u8; 256], kind: u8) -> usize
     ensures { (result ≡ kept_start kind ends.now sizes.now) × (result ≤ 65535) }
 {
-    let end = octet_numbers::wide16(ends[kind as usize]);
-    less(end, octet_numbers::wide(sizes[kind as usize]))
+    let end = usize::from(ends[kind as usize]);
+    less(end, usize::from(sizes[kind as usize]))
 }
 
 // Where its value lies.
@@ -48,7 +48,7 @@ pub fn place_of(ends: &[u16; 256], sizes: &[u8; 256], kind: u8) -> usize
 pub fn size_of(sizes: &[u8; 256], kind: u8) -> usize
     ensures { result ≡ kept_size kind sizes.now }
 {
-    less(octet_numbers::wide(sizes[kind as usize]), 2)
+    less(usize::from(sizes[kind as usize]), 2)
 }
 
 // Its value; empty where there is none.

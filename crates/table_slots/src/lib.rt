@@ -35,7 +35,7 @@ pub fn byte(s: &[u8], i: usize) -> usize
     if s.len() <= i {
         return 0;
     }
-    octet_numbers::wide(s[i])
+    usize::from(s[i])
 }
 
 // Whether n is from lo to hi.
