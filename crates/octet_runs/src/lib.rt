@@ -6,6 +6,10 @@ ghost use Rattle.octet_numbers.specs.Numbers.{be_bytes};
 ghost use Rattle.octet_numbers.specs.Runs.{part, equal_bytes};
 ghost use Rattle.octet_runs.specs.Compared.{pairs_from, compared_of};
 
+mod span; // span.rt: a run named by its place in another
+
+pub use span::Span;
+
 // The n bytes of s from place at on, as the part of s that they are; as many as there are where s ends before.
 pub fn slice(s: &[u8], at: usize, n: usize) -> &[u8]
     ensures { result.now ≡ part at n s.now }

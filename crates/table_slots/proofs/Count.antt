@@ -1,27 +1,14 @@
--- The number of slots: how a length decides it, and what it says of the length. A length that is not 192 times 0 to 64 counts as none.
+-- The number of slots and what it says of the length: a length that is not 192 times 0 to 64 counts as none.
 -- Assumes nothing.
 use mathlib.Core.Path.{◌≡◌, refl}
-use mathlib.Core.Bool.{Bool, true, false, ◌&&◌, cond, and-false}
+use mathlib.Core.Bool.{Bool, true, false, ◌&&◌, cond}
 use mathlib.Core.List.{List}
 use Prim.Native.Nat.{ℕ, ◌+◌, ◌*◌, ◌/◌, ◌%◌, ◌≤◌, ◌<◌}
 use native.Mathlib.Omega.{arith}
-use borrow.Author.Tests.{eq-eqb, ne_eqb, le-leb, lt-leb, leb-true}
+use borrow.Author.Tests.{leb-true}
 use lib.Dec.{eqb, leb}
 use lib.ListN.{length}
 use Rattle.table_slots.specs.Slot.{slot_count}
-
-module _ (t : List ℕ) where
-  pub count_odd : (length t % 192 ≡ 0 → ⊥) → 0 ≡ slot_count t
-  unfolding slot_count
-  count_odd h = rw (ne_eqb _ _ h)
-
-  pub count_many : 64 < length t / 192 → 0 ≡ slot_count t
-  unfolding slot_count
-  count_many h = rw (lt-leb _ _ h, and-false)
-
-  pub count_is : length t % 192 ≡ 0 → length t / 192 ≤ 64 → length t / 192 ≡ slot_count t
-  unfolding slot_count
-  count_is h g = rw (eq-eqb _ _ h, le-leb _ _ g)
 
 -- the slots lie in the table, and there are at most 64
 pub record Counted (n size : ℕ) : Type 0 where
