@@ -5,7 +5,6 @@ use mathlib.Core.List.{List, [], ◌++◌}
 use Prim.Native.Nat.{ℕ, ◌+◌, ◌%◌, ◌≤◌}
 use native.Mathlib.Omega.{arith}
 use lib.ListN.{length, take, length-take}
-use lib.Seq.{take_all}
 use Rattle.octet_numbers.specs.Runs.{part, write, equal_bytes}
 use Rattle.octet_numbers.proofs.Part.{part_whole, drop-take}
 use Rattle.octet_numbers.proofs.Write.{write_then}
@@ -26,11 +25,8 @@ pub then : (n e : ℕ) (m s : List ℕ) (q r : State) (b b' : List ℕ) → Upda
 then n e m s q r b b' update count held = held_as (n + length s) e (m ++ s) (m ++ s) r b' count refl (update m held)
 
 -- the front of a packet, by two copies
-pub fronted : (b b₁ b₂ p auth : List ℕ) → b₁ ≡ write b 0 (take 4 p) → b₂ ≡ write b₁ 4 (take 16 auth) → 20 ≤ length p → length auth ≡ 16
-    → b₂ ≡ write b 0 (take 4 p ++ auth)
-fronted b b₁ b₂ p auth e g h l =
-    let all : take 16 auth ≡ auth = take_all 16 auth (omega arith) in
-    write_then b₁ b₂ b 0 4 (take 4 p) auth e (g ∙ rw all) (sym (simp length-take (omega arith)))
+pub fronted : (b b₁ b₂ p auth : List ℕ) → b₁ ≡ write b 0 (take 4 p) → b₂ ≡ write b₁ 4 auth → 20 ≤ length p → b₂ ≡ write b 0 (take 4 p ++ auth)
+fronted b b₁ b₂ p auth e g h = write_then b₁ b₂ b 0 4 (take 4 p) auth e g (sym (simp length-take (omega arith)))
 
 module _ (auth p : List ℕ) (n : ℕ) (low : 20 ≤ n) (fits : n ≤ length p) (long : length auth ≡ 16) where
   -- the front in a buffer where no block is begun

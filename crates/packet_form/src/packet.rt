@@ -36,10 +36,12 @@ impl<'a> Packet<'a> {
     }
 
     // The 16 bytes in the authenticator's place.
-    pub fn authenticator(&self) -> &'a [u8]
-        ensures { result.now ≡ auth_of self.now.bytes.now }
+    pub fn authenticator(&self) -> [u8; 16]
+        ensures { result ≡ auth_of self.now.bytes.now }
     {
-        octet_runs::slice(self.bytes, 4, 16)
+        let mut auth = [0u8; 16];
+        auth.copy_from_slice(&self.bytes[4..20]);
+        auth
     }
 
     // The attributes, up to Length.
