@@ -14,6 +14,6 @@ use Rattle.packet_form.specs.Discards.{Sized}
 pub area_of_lem : (s p : List ℕ) (n : ℕ) → s ≡ part 20 (n - 20) p → Sized p n → s ≡ area_of p
 area_of_lem s p n e z = e ∙ rw z.is
 
--- the area of a packet that does not meet D1 is no longer than 4,096 bytes
-pub area_short : (s p : List ℕ) (n : ℕ) → s ≡ part 20 (n - 20) p → Sized p n → length s ≤ 4096
+-- it is no longer than 4,076 bytes
+pub area_short : (s p : List ℕ) (n : ℕ) → s ≡ part 20 (n - 20) p → Sized p n → length s ≤ 4076
 area_short s p n e z = rw (e, length_part 20 (n - 20) p (omega (arith, z.low, z.given))) (omega (arith, z.high))

@@ -1,5 +1,5 @@
 // A packet where it lies, and its parts.
-ghost use Rattle.std.specs.Prelude.{◌≡◌, false};
+ghost use Rattle.std.specs.Prelude.{◌≡◌, false, ◌≤◌, length};
 ghost use Rattle.packet_form.specs.Packet.{code_of, identifier_of, auth_of, area_of};
 ghost use Rattle.packet_form.specs.Discards.{bad_length, Sized};
 
@@ -46,7 +46,8 @@ impl<'a> Packet<'a> {
 
     // The attributes, up to Length.
     pub fn area(&self) -> &'a [u8]
-        ensures { result.now ≡ area_of self.now.bytes.now }
+        ensures value { result.now ≡ area_of self.now.bytes.now }
+        ensures short { length result.now ≤ 4076 }
     {
         octet_runs::slice(self.bytes, 20, self.length - 20)
     }

@@ -4,16 +4,23 @@
 ghost use Rattle.std.specs.Prelude.{◌≡◌, ◌+◌, ◌≤◌, length};
 ghost use Rattle.octet_numbers.specs.Runs.{part, equal_bytes};
 ghost use Rattle.packet_form.specs.Packet.{area_of};
-ghost use Rattle.packet_form.specs.Discards.{Sized};
 ghost use Rattle.packet_auth.specs.Signing.{zeros, message_authenticator};
-ghost use Rattle.attr_survey.specs.Survey.{Kept};
 ghost use Rattle.packet_mac.specs.Discards.{bad_mac};
 
+use attr_survey::Survey;
 use attr_types::MESSAGE_AUTHENTICATOR;
+use packet_form::Packet;
+use packet_request::Request;
 
 // The Message-Authenticator whose value stands at place at: auth is zeros for a request, the request's authenticator for a reply.
-pub fn message_authenticator(p: &[u8], n: usize, auth: &[u8], at: usize, secret: &[u8]) -> [u8; 16]
-    requires { (20 ≤ at) × (at + 16 ≤ n) × (n ≤ length p.now) × (length auth.now ≡ 16) }
+pub fn message_authenticator(
+    p: &[u8],
+    n: usize,
+    auth: &[u8; 16],
+    at: usize,
+    secret: &[u8],
+) -> [u8; 16]
+    requires { (20 ≤ at) × (at + 16 ≤ n) × (n ≤ length p.now) }
     ensures { result ≡ message_authenticator auth.now p.now n at secret.now }
 {
     let held = n + 64;
@@ -27,55 +34,37 @@ pub fn message_authenticator(p: &[u8], n: usize, auth: &[u8], at: usize, secret:
 }
 
 // Whether the value at place at is the packet's Message-Authenticator (D5).
-pub fn mac_right(p: &[u8], n: usize, auth: &[u8], at: usize, secret: &[u8]) -> bool
-    requires { (20 ≤ at) × (at + 16 ≤ n) × (n ≤ length p.now) × (length auth.now ≡ 16) }
+pub fn mac_right(p: &[u8], n: usize, auth: &[u8; 16], at: usize, secret: &[u8]) -> bool
+    requires { (20 ≤ at) × (at + 16 ≤ n) × (n ≤ length p.now) }
     ensures { result ≡ equal_bytes (part at 16 p.now) (message_authenticator auth.now p.now n at secret.now) }
 {
     let d = message_authenticator(p, n, auth, at, secret);
     octet_runs::equal16(p, at, &d, 0)
 }
 
-// Type 80 more than once, not of length 18, or wrong, with auth in the authenticator's place.
-pub fn bad_mac(
-    p: &[u8],
-    n: usize,
-    auth: &[u8],
-    secret: &[u8],
-    count: &[u8; 256],
-    ends: &[u16; 256],
-    sizes: &[u8; 256],
-) -> bool
-    requires sized { Sized p.now n × (length auth.now ≡ 16) }
-    requires kept { Kept (area_of p.now) count.now ends.now sizes.now }
-    ensures { result ≡ bad_mac auth.now secret.now p.now }
+// Type 80 more than once, not of length 18, or wrong, with auth in the authenticator's place; the survey is that of the packet's attributes.
+pub fn bad_mac(packet: &Packet, auth: &[u8; 16], secret: &[u8], survey: &Survey) -> bool
+    requires { survey.now.area.now ≡ area_of packet.now.bytes.now }
+    ensures { result ≡ bad_mac auth.now secret.now packet.now.bytes.now }
 {
-    let number = count[MESSAGE_AUTHENTICATOR as usize];
-    if number == 0 {
+    let first = survey.noted[usize::from(MESSAGE_AUTHENTICATOR)];
+    if first.number == 0 {
         return false;
     }
-    if number != 1 {
+    if first.number != 1 {
         return true;
     }
-    if sizes[MESSAGE_AUTHENTICATOR as usize] != 18 {
+    if first.size != 18 {
         return true;
     }
-    let end = attr_lookup::end_of(ends, MESSAGE_AUTHENTICATOR);
-    !mac_right(p, n, auth, end + 4, secret)
+    let at = usize::from(first.end) + 4;
+    !mac_right(packet.bytes, packet.length, auth, at, secret)
 }
 
 // D5.
-pub fn bad_request_mac(
-    p: &[u8],
-    n: usize,
-    secret: &[u8],
-    count: &[u8; 256],
-    ends: &[u16; 256],
-    sizes: &[u8; 256],
-) -> bool
-    requires sized { Sized p.now n }
-    requires kept { Kept (area_of p.now) count.now ends.now sizes.now }
-    ensures { result ≡ bad_mac zeros secret.now p.now }
+pub fn bad_request_mac(request: &Request, secret: &[u8]) -> bool
+    ensures { result ≡ bad_mac zeros secret.now request.now.packet.bytes.now }
 {
     let zeros = [0u8; 16];
-    bad_mac(p, n, &zeros, secret, count, ends, sizes)
+    bad_mac(&request.packet, &zeros, secret, &request.survey)
 }

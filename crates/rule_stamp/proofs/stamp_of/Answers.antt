@@ -9,11 +9,11 @@ overflow_sub-end c = search (rules, stamp_low)
 pub be32-requires : goal.be32-requires
 be32-requires c = search (rules, stamp_room)
 
-pub returns-then-sizes-eq6 : goal.returns-then-sizes-eq6
-returns-then-sizes-eq6 c = search (rules, stamp_usable)
+pub returns-then-first-eq6 : goal.returns-then-first-eq6
+returns-then-first-eq6 c = search (rules, stamp_usable)
 
-pub returns-then-count-eq1 : goal.returns-then-count-eq1
-returns-then-count-eq1 c = search (rules, stamp_size)
+pub returns-then-first-eq1 : goal.returns-then-first-eq1
+returns-then-first-eq1 c = search (rules, stamp_size)
 
 pub returns : goal.returns
 returns c = search (rules, stamp_count)

@@ -1,0 +1,29 @@
+// A packet that has the form of a request, with one pass over its attributes: what every rule after D4 looks at.
+#![tactic(auto)]
+
+ghost use Rattle.std.specs.Prelude.{◌≡◌, None};
+ghost use Rattle.packet_form.specs.Packet.{code_of, area_of};
+ghost use Rattle.packet_form.specs.Discards.{form_of};
+
+use attr_survey::Survey;
+use packet_form::Packet;
+
+// A packet that meets none of D1 to D3, and the survey of its attributes.
+pub struct Request<'a> {
+    pub packet: Packet<'a>,
+    pub survey: Survey<'a>,
+    pub ghost formed: { form_of packet.bytes.now ≡ None },
+    pub ghost area_is: { survey.area.now ≡ area_of packet.bytes.now },
+    pub ghost code_is: { survey.code ≡ code_of packet.bytes.now },
+}
+
+impl<'a> Request<'a> {
+    // The request in a packet that meets none of D1 to D3.
+    pub fn of(packet: Packet<'a>) -> Request<'a>
+        requires { form_of packet.bytes.now ≡ None }
+        ensures { result.packet ≡ packet.entry }
+    {
+        let survey = Survey::of(packet.area(), packet.code());
+        Request { packet, survey }
+    }
+}
