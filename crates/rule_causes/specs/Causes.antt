@@ -1,15 +1,15 @@
 -- The NAK causes 1 to 6, first that applies (document 01, "NAK causes"). Each is a test of the attributes in their order.
 -- Assumes nothing.
-use Rattle.std.specs.Prelude.{Bool, true, false, cond, not, ◌&&◌, ◌||◌, List, ℕ, eqb, ltb}
+use Rattle.std.specs.Prelude.{Bool, cond, not, ◌&&◌, ◌||◌, List, ℕ, eqb, ltb, Option, Some, None}
 use Rattle.octet_numbers.specs.Numbers.{be_bytes}
 use Rattle.octet_numbers.specs.Runs.{equal_bytes}
 use Rattle.attr_walk.specs.declared.Attribute.{Attribute}
 use Rattle.attr_walk.specs.Attributes.{attributes, value_of, any, found, kind_is}
 use Rattle.attr_types.specs.Types.{unsupported_in, malformed, changing, among, naming_types, first_repeated, none}
-use Rattle.rule_causes.specs.declared.Cause as D
-use Rattle.rule_causes.specs.declared.Cause.TheVariants as C
+use Rattle.rule_causes.specs.declared.cause.Cause as D
+use Rattle.rule_causes.specs.declared.cause.Cause.TheVariants as C
 
--- RFC 3576, 3.5: the numbers of the causes; 0 where none applies
+-- RFC 3576, 3.5: the numbers of the causes
 unfoldable pub error_cause : D.Cause → ℕ
 error_cause C.UnsupportedAttribute = 401
 error_cause C.MissingAttribute = 402
@@ -18,18 +18,6 @@ error_cause C.InvalidRequest = 404
 error_cause C.UnsupportedService = 405
 error_cause C.SessionNotFound = 503
 error_cause C.ResourcesUnavailable = 506
-error_cause C.NoCause = 0
-
--- a cause applies
-abbrev pub applies : D.Cause → Bool
-applies C.NoCause = false
-applies C.UnsupportedAttribute = true
-applies C.MissingAttribute = true
-applies C.IdentificationMismatch = true
-applies C.InvalidRequest = true
-applies C.UnsupportedService = true
-applies C.SessionNotFound = true
-applies C.ResourcesUnavailable = true
 
 -- 403: type 4 or 32 differs from the gate's own address and NAS-Identifier
 abbrev pub differing : List ℕ → ℕ → List ℕ → Attribute → Bool
@@ -51,12 +39,12 @@ unfoldable pub invalid : List ℕ → Bool
 invalid s = found (first_repeated none (attributes s)) || any (malformed s) (attributes s)
 
 -- the first cause that applies to the area s of a request of this code, at a gate of this address and name
-unfoldable pub cause_of : ℕ → ℕ → List ℕ → List ℕ → D.Cause
+unfoldable pub cause_of : ℕ → ℕ → List ℕ → List ℕ → Option D.Cause
 cause_of code nas_ip nas_id s =
-    cond (any (unsupported_in code s) (attributes s)) C.UnsupportedAttribute
-    (cond (any (kind_is 6) (attributes s)) C.UnsupportedService
-    (cond (invalid s) C.InvalidRequest
-    (cond (any (mismatched nas_ip nas_id s) (attributes s)) C.IdentificationMismatch
-    (cond (missing code s) C.MissingAttribute
-    (cond (any oversized (attributes s)) C.ResourcesUnavailable
-    C.NoCause)))))
+    cond (any (unsupported_in code s) (attributes s)) (Some C.UnsupportedAttribute)
+    (cond (any (kind_is 6) (attributes s)) (Some C.UnsupportedService)
+    (cond (invalid s) (Some C.InvalidRequest)
+    (cond (any (mismatched nas_ip nas_id s) (attributes s)) (Some C.IdentificationMismatch)
+    (cond (missing code s) (Some C.MissingAttribute)
+    (cond (any oversized (attributes s)) (Some C.ResourcesUnavailable)
+    None)))))

@@ -4,47 +4,35 @@ ghost use Rattle.octet_numbers.specs.Numbers.{be_bytes};
 ghost use Rattle.rule_causes.specs.Later.{differs_at, missing_by};
 
 use attr_lookup::{has, value_of};
+use attr_survey::Survey;
 use attr_types::NAS_IP_ADDRESS;
 
 // 403: the first attribute of this type has another value than our own.
-pub fn other_value(
-    s: &[u8],
-    count: &[u8; 256],
-    ends: &[u16; 256],
-    sizes: &[u8; 256],
-    kind: u8,
-    own: &[u8],
-) -> bool
-    ensures { result ≡ differs_at s.now count.now ends.now sizes.now kind own.now }
+pub fn other_value(survey: &Survey, kind: u8, own: &[u8]) -> bool
+    ensures { result ≡ differs_at survey.now.area.now survey.now.noted kind own.now }
 {
-    if has(count, kind) {
-        return !octet_runs::equal(value_of(s, ends, sizes, kind), own);
+    if has(survey, kind) {
+        return !octet_runs::equal(value_of(survey, kind), own);
     }
     false
 }
 
 // 403: the NAS-IP-Address is not ours.
-pub fn other_address(
-    s: &[u8],
-    count: &[u8; 256],
-    ends: &[u16; 256],
-    sizes: &[u8; 256],
-    nas_ip: u32,
-) -> bool
-    ensures { result ≡ differs_at s.now count.now ends.now sizes.now 4 (be_bytes 4 nas_ip) }
+pub fn other_address(survey: &Survey, nas_ip: u32) -> bool
+    ensures { result ≡ differs_at survey.now.area.now survey.now.noted 4 (be_bytes 4 nas_ip) }
 {
     let mut own = [0u8; 4];
     octet_numbers::put_be32(&mut own, 0, nas_ip);
-    other_value(s, count, ends, sizes, NAS_IP_ADDRESS, &own)
+    other_value(survey, NAS_IP_ADDRESS, &own)
 }
 
 // 402: none that names a session, or a CoA-Request with none that changes one.
-pub fn missing(code: u8, f: attr_survey::Flags) -> bool
-    ensures { result ≡ missing_by code f }
+pub fn missing(survey: &Survey) -> bool
+    ensures { result ≡ missing_by survey.now.code survey.now.flags }
 {
-    if f.criterion {
-        if code == 43 {
-            return !f.change;
+    if survey.flags.criterion {
+        if survey.code == 43 {
+            return !survey.flags.change;
         }
         return false;
     }
