@@ -6,7 +6,6 @@ use mathlib.Core.List.{List}
 use Prim.Native.Nat.{ℕ, ◌≤◌, ◌<◌}
 use native.Mathlib.Omega.{arith}
 use lib.Dec.{ltb, lit<}
-use lib.ListN.{get_or}
 use Rattle.attr_walk.specs.declared.Attribute.{Attribute}
 use Rattle.std.specs.Prelude.{Option, Some, None}
 use Rattle.octet_numbers.specs.Numbers.{be_bytes}
@@ -15,7 +14,7 @@ use Rattle.attr_walk.specs.Attributes.{attributes, value_of, any, found, first_o
 use Rattle.attr_walk.proofs.Searches.{any_or, only}
 use Rattle.attr_survey.specs.declared.counts.Noted.{Noted}
 use Rattle.attr_survey.specs.declared.Flags.{Flags}
-use Rattle.attr_survey.specs.Noted.{noted_at, seen_at}
+use Rattle.attr_survey.specs.Noted.{noted_at}
 use Rattle.attr_survey.specs.Survey.{Flagged, Kept, end_of, size_of}
 use Rattle.attr_lookup.specs.Lookup.{kept_value}
 use Rattle.attr_types.proofs.Repeats.{at_most_once}
