@@ -8,8 +8,7 @@ use lib.Dec.{eqb}
 use lib.ListN.{length}
 use borrow.Author.Tests.{eq-eqb, ne_eqb}
 use Rattle.attr_walk.specs.declared.Attribute.{Attribute}
-use Rattle.attr_walk.specs.declared.Search.{Search}
-use Rattle.attr_walk.specs.declared.Search.TheVariants.{At}
+use Rattle.std.specs.Prelude.{Option, Some}
 use Rattle.attr_walk.specs.Attributes.{any, found, first_of, kind_is}
 use Rattle.attr_survey.specs.declared.Flags.{Flags}
 use Rattle.attr_types.specs.Types.{unsupported_type, misfitting, among, naming_types, changing_types, first_repeated, also, none}
@@ -26,15 +25,15 @@ use Rattle.attr_survey.proofs.Held.{Held, Flag}
 
 -- ---- one flag, one turn
 
-found-cond : (b : Bool) (a : Attribute) (x : Search) → found (cond b (At a) x) ≡ (b || found x)
+found-cond : (b : Bool) (a : Attribute) (x : Option Attribute) → found (cond b (Some a) x) ≡ (b || found x)
 found-cond true a x = refl
 found-cond false a x = refl
 
-joins : (z u b : Bool) (a : Attribute) (x : Search) → z ≡ (u || found (cond b (At a) x)) → (y : Bool) → y ≡ b → z ≡ ((u || y) || found x)
+joins : (z u b : Bool) (a : Attribute) (x : Option Attribute) → z ≡ (u || found (cond b (Some a) x)) → (y : Bool) → y ≡ b → z ≡ ((u || y) || found x)
 joins z u b a x e y q =
     e ∙ ap (λ (v : Bool). u || v) (found-cond b a x) ∙ sym (or_assoc u b (found x)) ∙ ap (λ (v : Bool). (u || v) || found x) (sym q)
 
-stays : (z u b : Bool) (a : Attribute) (x : Search) → z ≡ (u || found (cond b (At a) x)) → b ≡ false → z ≡ (u || found x)
+stays : (z u b : Bool) (a : Attribute) (x : Option Attribute) → z ≡ (u || found (cond b (Some a) x)) → b ≡ false → z ≡ (u || found x)
 stays z u b a x e q = e ∙ rw q
 
 module _ (p : Attribute → Bool) (w l : List Attribute) (a : Attribute) (u : Bool) (e : Flag p w (a ∷ l) u) where
@@ -64,7 +63,7 @@ module _ (code : ℕ) (w l : List Attribute) (a : Attribute) (count ends sizes :
           service = v;
           repeated =
               stays (found (first_repeated none w)) f.repeated (not (eqb a.kind 33) && seen_at count a.kind) a (first_repeated (also a.kind (seen_at count)) l) i.repeated (rw (eq-eqb _ _ e))
-              ∙ ap (λ (x : Search). f.repeated || found x) (same_seen _ _ l (λ k p. also_33 (seen_at count) a.kind k e p))
+              ∙ ap (λ (x : Option Attribute). f.repeated || found x) (same_seen _ _ l (λ k p. also_33 (seen_at count) a.kind k e p))
               ∙ ap (λ (b : Bool). b || found (first_repeated (seen_at count) l)) (sym r);
           misfit = m;
           criterion = c;
@@ -108,7 +107,7 @@ module _ (code : ℕ) (w l : List Attribute) (a : Attribute) (count ends sizes :
         service = flag_joins (kind_is 6) w l a f.service i.service _ (says_service a.kind);
         repeated =
             joins (found (first_repeated none w)) f.repeated (not (eqb a.kind 33) && seen_at count a.kind) a (first_repeated (also a.kind (seen_at count)) l) i.repeated _ (rw ne)
-            ∙ ap (λ (x : Search). (f.repeated || seen_at count a.kind) || found x) (same_seen _ _ l (λ k p. also_counted count a.kind k hc));
+            ∙ ap (λ (x : Option Attribute). (f.repeated || seen_at count a.kind) || found x) (same_seen _ _ l (λ k p. also_counted count a.kind k hc));
         misfit = flag_joins misfitting w l a f.misfit i.misfit _ (misfit_class a.kind a.size);
         criterion = flag_joins (among naming_types) w l a f.criterion i.criterion _ (says_criterion a.kind);
         change = flag_joins (among changing_types) w l a f.change i.change _ (says_change a.kind);

@@ -11,8 +11,7 @@ use lib.Dec.{eqb}
 use lib.ListN.{length, get_or, replicate}
 use borrow.Author.Tests.{eq-eqb, eqb-true, eqb-false}
 use Rattle.attr_walk.specs.declared.Attribute.{Attribute}
-use Rattle.attr_walk.specs.declared.Search.{Search}
-use Rattle.attr_walk.specs.declared.Search.TheVariants.{At, Missing}
+use Rattle.std.specs.Prelude.{Option, Some, None}
 use Rattle.attr_walk.specs.Attributes.{first_of, count_of, kind_is}
 use Rattle.attr_survey.specs.Survey.{zeros, up_to_two}
 use Rattle.attr_survey.specs.Turns.{counted_at, kept_at}
@@ -23,7 +22,7 @@ pub record Number (w l : List Attribute) (k : ℕ) (count : List ℕ) : Type 0 w
   pub low : get_or count k 0 ≤ 2
 
 -- f tells the end of an attribute, or its length
-pub record First (f : Search → ℕ) (w l : List Attribute) (k : ℕ) (count kept : List ℕ) : Type 0 where
+pub record First (f : Option Attribute → ℕ) (w l : List Attribute) (k : ℕ) (count kept : List ℕ) : Type 0 where
   pub value : f (first_of (kind_is k) w) ≡ cond (eqb (get_or count k 0) 0) (f (first_of (kind_is k) l)) (get_or kept k 0)
   pub empty : get_or count k 0 ≡ 0 → get_or kept k 0 ≡ 0
 
@@ -67,7 +66,7 @@ number_case w l a k count n h false e =
 pub number_turn : (w l : List Attribute) (a : Attribute) (k : ℕ) (count : List ℕ) → Number w (a ∷ l) k count → a.kind < length count → Number w l k (counted_at count a.kind)
 number_turn w l a k count n h = number_case w l a k count n h _ refl
 
-module _ (f : Search → ℕ) (w l : List Attribute) (a : Attribute) (v : ℕ) (vq : v ≡ f (At a)) (count kept : List ℕ) (h : a.kind < length count) (g : a.kind < length kept) where
+module _ (f : Option Attribute → ℕ) (w l : List Attribute) (a : Attribute) (v : ℕ) (vq : v ≡ f (Some a)) (count kept : List ℕ) (h : a.kind < length count) (g : a.kind < length kept) where
   first_same : First f w (a ∷ l) a.kind count kept → (z : Bool) → eqb (get_or count a.kind 0) 0 ≡ z
       → First f w l a.kind (counted_at count a.kind) (kept_at count kept a.kind v)
   first_same x true e =
@@ -104,16 +103,16 @@ pub number_start : (w : List Attribute) (k : ℕ) → Number w w k zeros
 unfolding zeros
 number_start w k = record { number = rw (zero_at k 256) (ap up_to_two (sym (zero-add (count_of (kind_is k) w)))); low = rw (zero_at k 256) (omega arith) }
 
-pub first_start : (f : Search → ℕ) (w : List Attribute) (k : ℕ) → First f w w k zeros zeros
+pub first_start : (f : Option Attribute → ℕ) (w : List Attribute) (k : ℕ) → First f w w k zeros zeros
 unfolding zeros
 first_start f w k = record { value = rw (zero_at k 256); empty = λ e. zero_at k 256 }
 
 pub number_end : (w : List Attribute) (k : ℕ) (count : List ℕ) → Number w [] k count → get_or count k 0 ≡ up_to_two (count_of (kind_is k) w)
 number_end w k count n = let z : get_or count k 0 + 0 ≡ get_or count k 0 = add-zero _ in sym (n.number ∙ ap up_to_two z ∙ low_two _ n.low)
 
-end_case : (f : Search → ℕ) (w : List Attribute) (k : ℕ) (count kept : List ℕ) → f Missing ≡ 0 → First f w [] k count kept → (z : Bool) → eqb (get_or count k 0) 0 ≡ z → get_or kept k 0 ≡ f (first_of (kind_is k) w)
+end_case : (f : Option Attribute → ℕ) (w : List Attribute) (k : ℕ) (count kept : List ℕ) → f None ≡ 0 → First f w [] k count kept → (z : Bool) → eqb (get_or count k 0) 0 ≡ z → get_or kept k 0 ≡ f (first_of (kind_is k) w)
 end_case f w k count kept m x true e = x.empty (eqb-true _ _ e) ∙ sym (x.value ∙ rw e m)
 end_case f w k count kept m x false e = sym (x.value ∙ rw e)
 
-pub first_end : (f : Search → ℕ) (w : List Attribute) (k : ℕ) (count kept : List ℕ) → f Missing ≡ 0 → First f w [] k count kept → get_or kept k 0 ≡ f (first_of (kind_is k) w)
+pub first_end : (f : Option Attribute → ℕ) (w : List Attribute) (k : ℕ) (count kept : List ℕ) → f None ≡ 0 → First f w [] k count kept → get_or kept k 0 ≡ f (first_of (kind_is k) w)
 first_end f w k count kept m x = end_case f w k count kept m x _ refl

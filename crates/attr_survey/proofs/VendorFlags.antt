@@ -10,8 +10,7 @@ use borrow.Author.Tests.{eq-eqb, ne_eqb}
 use lib.Dec.{lit<}
 use lib.ListN.{get_or}
 use Rattle.attr_walk.specs.declared.Attribute.{Attribute}
-use Rattle.attr_walk.specs.declared.Search.{Search}
-use Rattle.attr_walk.specs.declared.Search.TheVariants.{At}
+use Rattle.std.specs.Prelude.{Option, Some}
 use Rattle.attr_walk.specs.declared.Step.{Step}
 use Rattle.attr_walk.specs.declared.Step.TheVariants.{Found, End, Bad}
 use Rattle.attr_walk.specs.Attributes.{step_at, attributes, attributes_from, value_of, any, found, first_of, kind_is}
@@ -40,7 +39,7 @@ module _ (f : Flags) (s : List ℕ) (a : Attribute) where
 
 -- ---- all of them, from the first on
 
-found-cond : (b : Bool) (a : Attribute) (x : Search) → found (cond b (At a) x) ≡ (b || found x)
+found-cond : (b : Bool) (a : Attribute) (x : Option Attribute) → found (cond b (Some a) x) ≡ (b || found x)
 found-cond true a x = refl
 found-cond false a x = refl
 

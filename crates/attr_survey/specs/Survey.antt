@@ -1,10 +1,8 @@
 -- What one pass over the attributes of an area tells: flags for the rules, and for each type how many there are (2 for any more) and where the first one ends.
 -- For inner contracts and proofs: what flags and counts stand for is said in attr_types/specs/Types.antt and attr_walk/specs/Attributes.antt.
 -- Assumes nothing.
-use Rattle.std.specs.Prelude.{Bool, not, List, ◌≡◌, ℕ, zero, suc, ◌+◌, ◌<◌, eqb, get_or, replicate}
+use Rattle.std.specs.Prelude.{Bool, not, List, ◌≡◌, ℕ, zero, suc, ◌+◌, ◌<◌, eqb, get_or, replicate, Option, Some, None}
 use Rattle.attr_walk.specs.declared.Attribute.{Attribute}
-use Rattle.attr_walk.specs.declared.Search.{Search}
-use Rattle.attr_walk.specs.declared.Search.TheVariants.{At, Missing}
 use Rattle.attr_walk.specs.Attributes.{attributes, tiled, any, found, first_of, count_of, kind_is}
 use Rattle.attr_survey.specs.declared.Flags as D
 use Rattle.attr_types.specs.Types.{unsupported_type, unsupported_in, misfitting, malformed, among, naming_types, changing_types, changing, first_repeated, none}
@@ -24,13 +22,13 @@ abbrev pub seen_at : List ℕ → ℕ → Bool
 seen_at count k = not (eqb (get_or count k 0) 0)
 
 -- where a found attribute ends, and its length
-abbrev pub end_of : Search → ℕ
-end_of (At a) = a.at + a.size
-end_of Missing = 0
+abbrev pub end_of : Option Attribute → ℕ
+end_of (Some a) = a.at + a.size
+end_of None = 0
 
-abbrev pub size_of : Search → ℕ
-size_of (At a) = a.size
-size_of Missing = 0
+abbrev pub size_of : Option Attribute → ℕ
+size_of (Some a) = a.size
+size_of None = 0
 
 -- what is kept of type k: how many there are, 2 for any more, and where the first one ends
 pub record Counted (l : List Attribute) (k : ℕ) (count ends sizes : List ℕ) : Type 0 where

@@ -11,8 +11,7 @@ use lib.ListN.{length, get_or, replicate}
 use Rattle.octet_numbers.specs.Runs.{part, equal_bytes}
 use Rattle.octet_numbers.proofs.Part.{part-part, length_part}
 use Rattle.attr_walk.specs.declared.Attribute.{Attribute}
-use Rattle.attr_walk.specs.declared.Search.{Search}
-use Rattle.attr_walk.specs.declared.Search.TheVariants.{At, Missing}
+use Rattle.std.specs.Prelude.{Option, Some, None}
 use Rattle.attr_walk.specs.Attributes.{attributes, value_of, found, first_of, on_first, count_of, kind_is}
 use Rattle.attr_walk.proofs.Searches.{only, none_any, some_any}
 use Rattle.attr_walk.proofs.Stands.{first_placed}
@@ -23,17 +22,17 @@ use Rattle.attr_survey.specs.Survey.{Kept, Counted, end_of, size_of}
 use Rattle.attr_survey.proofs.UpToTwo.{two_none, two_one, two_more}
 use Rattle.packet_mac.specs.Discards.{wrong_mac, bad_mac}
 
-on_missing : (q : Attribute → Bool) (z : Search) → found z ≡ false → on_first q z ≡ false
-on_missing q (At a) h = absurd (false≢true (sym h))
-on_missing q Missing h = refl
+on_missing : (q : Attribute → Bool) (z : Option Attribute) → found z ≡ false → on_first q z ≡ false
+on_missing q (Some a) h = absurd (false≢true (sym h))
+on_missing q None h = refl
 
 -- an attribute is there: what holds of each holds of it
-on_found : (P : Search → Type 0) (z x : Search) → z ≡ x → found z ≡ true → ((a : Attribute) → z ≡ At a → P (At a)) → P x
-on_found P z (At a) e h f = f a e
-on_found P z Missing e h f = absurd (false≢true (sym (ap found e) ∙ h))
+on_found : (P : Option Attribute → Type 0) (z x : Option Attribute) → z ≡ x → found z ≡ true → ((a : Attribute) → z ≡ Some a → P (Some a)) → P x
+on_found P z (Some a) e h f = f a e
+on_found P z None e h f = absurd (false≢true (sym (ap found e) ∙ h))
 
 module _ (auth secret p : List ℕ) (count ends sizes : List ℕ) (kept : Kept (area_of p) count ends sizes) where
-  first : Search
+  first : Option Attribute
   first = first_of (kind_is 80) (attributes (area_of p))
 
   known : Counted (attributes (area_of p)) 80 count ends sizes
@@ -58,7 +57,7 @@ module _ (auth secret p : List ℕ) (count ends sizes : List ℕ) (kept : Kept (
       rw (lt-ltb _ _ more)
 
   -- one: it is the first
-  one : get_or count 80 0 ≡ 1 → (P : Search → Type 0) → ((a : Attribute) → first ≡ At a → P (At a)) → P first
+  one : get_or count 80 0 ≡ 1 → (P : Option Attribute → Type 0) → ((a : Attribute) → first ≡ Some a → P (Some a)) → P first
   unfolding first
   one e P g =
       let n = two_one (count_of (kind_is 80) (attributes (area_of p))) (sym known.number ∙ e) in
@@ -77,7 +76,7 @@ module _ (auth secret p : List ℕ) (count ends sizes : List ℕ) (kept : Kept (
 
   module _ (n end : ℕ) (sized : Sized p n) (e : get_or count 80 0 ≡ 1) (size : get_or sizes 80 0 ≡ 18) (at : end ≡ get_or ends 80 0) where
     -- where the value lies in the packet
-    placed : (a : Attribute) → first ≡ At a → (end ≡ a.at + 18) × (end + 20 ≤ n)
+    placed : (a : Attribute) → first ≡ Some a → (end ≡ a.at + 18) × (end + 20 ≤ n)
     unfolding first
     placed a i =
         let s : a.size ≡ 18 = sym (ap size_of i) ∙ sym known.size ∙ size in

@@ -9,8 +9,8 @@ use lib.Dec.{ltb, lit<}
 use lib.ListN.{get_or}
 use Rattle.octet_numbers.specs.Numbers.{be_bytes}
 use Rattle.octet_numbers.specs.Runs.{equal_bytes}
-use Rattle.attr_walk.specs.declared.Search.{Search}
-use Rattle.attr_walk.specs.declared.Search.TheVariants.{At, Missing}
+use Rattle.attr_walk.specs.declared.Attribute.{Attribute}
+use Rattle.std.specs.Prelude.{Option, Some, None}
 use Rattle.attr_walk.specs.Attributes.{attributes, value_of, any, found, first_of, count_of, kind_is, on_first}
 use Rattle.attr_walk.proofs.Searches.{any_or, only}
 use Rattle.attr_survey.specs.declared.Flags.{Flags}
@@ -21,14 +21,14 @@ use Rattle.attr_lookup.proofs.Values.{kept_attribute, seen_any}
 use Rattle.rule_causes.specs.Causes.{differing, mismatched, missing, oversized}
 use Rattle.rule_causes.specs.Later.{differs_at, missing_by}
 
-at_differs : (s own : List ℕ) (k : ℕ) (ends sizes : List ℕ) (x : Search) → get_or ends k 0 ≡ end_of x → get_or sizes k 0 ≡ size_of x
+at_differs : (s own : List ℕ) (k : ℕ) (ends sizes : List ℕ) (x : Option Attribute) → get_or ends k 0 ≡ end_of x → get_or sizes k 0 ≡ size_of x
     → (found x && not (equal_bytes (kept_value s k ends sizes) own)) ≡ on_first (λ a. not (equal_bytes (value_of s a) own)) x
-at_differs s own k ends sizes (At a) p q = ap (λ (v : List ℕ). not (equal_bytes v own)) (kept_attribute s a k ends sizes p q)
-at_differs s own k ends sizes Missing p q = refl
+at_differs s own k ends sizes (Some a) p q = ap (λ (v : List ℕ). not (equal_bytes v own)) (kept_attribute s a k ends sizes p q)
+at_differs s own k ends sizes None p q = refl
 
-at_long : (x : Search) → ltb 34 (size_of x) ≡ on_first (λ a. ltb 34 a.size) x
-at_long (At a) = refl
-at_long Missing = refl
+at_long : (x : Option Attribute) → ltb 34 (size_of x) ≡ on_first (λ a. ltb 34 a.size) x
+at_long (Some a) = refl
+at_long None = refl
 
 module _ (s : List ℕ) (code : ℕ) (f : Flags) (i : Flagged s code f) where
   pub missing_flags : missing_by code f ≡ missing code s

@@ -10,8 +10,7 @@ use lib.Dec.{eqb}
 use borrow.Author.Tests.{eq-eqb, eqb-true, ltb-false}
 use Rattle.octet_numbers.proofs.Bools.{neither, not-false}
 use Rattle.attr_walk.specs.declared.Attribute.{Attribute}
-use Rattle.attr_walk.specs.declared.Search.{Search}
-use Rattle.attr_walk.specs.declared.Search.TheVariants.{At}
+use Rattle.std.specs.Prelude.{Option, Some}
 use Rattle.attr_walk.specs.Attributes.{attributes, any, found, first_of, count_of, kind_is}
 use Rattle.attr_walk.proofs.Stands.{first_member}
 use Rattle.attr_walk.proofs.Searches.{first_passes, any_or}
@@ -29,11 +28,11 @@ and_first : (a b : Bool) → a ≡ true → (a && b) ≡ false → b ≡ false
 and_first true b h e = e
 and_first false b h e = absurd (false≢true h)
 
-head : (t : Bool) (b : Attribute) (x : Search) → found (cond t (At b) x) ≡ false → t ≡ false
+head : (t : Bool) (b : Attribute) (x : Option Attribute) → found (cond t (Some b) x) ≡ false → t ≡ false
 head true b x e = e
 head false b x e = refl
 
-tail : (t : Bool) (b : Attribute) (x : Search) → found (cond t (At b) x) ≡ false → found x ≡ false
+tail : (t : Bool) (b : Attribute) (x : Option Attribute) → found (cond t (Some b) x) ≡ false → found x ≡ false
 tail true b x e = absurd (true≢false e)
 tail false b x e = e
 
@@ -53,7 +52,7 @@ module _ (s : List ℕ) (misfit : any misfitting (attributes s) ≡ false) (a : 
   six_of h = eqb-true _ _ (not-false _ (and_first _ _ h (neither _ (member a.kind filled_types && eqb a.size 2) (fails misfitting (attributes s) misfit a m)).0))
 
 -- the first of a type that must have length 6 has it
-pub first_six : (s : List ℕ) (k : ℕ) (a : Attribute) → any misfitting (attributes s) ≡ false → first_of (kind_is k) (attributes s) ≡ At a → member k six_types ≡ true → a.size ≡ 6
+pub first_six : (s : List ℕ) (k : ℕ) (a : Attribute) → any misfitting (attributes s) ≡ false → first_of (kind_is k) (attributes s) ≡ Some a → member k six_types ≡ true → a.size ≡ 6
 first_six s k a misfit e h =
     let kind : a.kind ≡ k = eqb-true _ _ (first_passes (kind_is k) (attributes s) a e) in
     six_of s misfit a (first_member (kind_is k) (attributes s) a e) (ap (λ (j : ℕ). member j six_types) kind ∙ h)
@@ -80,7 +79,7 @@ module _ (code nas_ip : ℕ) (nas_id s : List ℕ) (q : cause_of code nas_ip nas
     filter e = ltb-false _ _ (and_first _ _ (eq-eqb _ _ e) (fails oversized (attributes s) ((exactly C.NoCause code nas_ip nas_id s).0 q).5 a m))
 
   -- the same of the first of a type
-  module _ (k : ℕ) (a : Attribute) (e : first_of (kind_is k) (attributes s) ≡ At a) where
+  module _ (k : ℕ) (a : Attribute) (e : first_of (kind_is k) (attributes s) ≡ Some a) where
     kind : a.kind ≡ k
     kind = eqb-true _ _ (first_passes (kind_is k) (attributes s) a e)
 

@@ -9,8 +9,8 @@ use lib.ListN.{length, get_or}
 use lib.Dec.{eqb, lit<}
 use borrow.Author.Tests.{eq-eqb, ne_eqb}
 use Rattle.octet_numbers.specs.Numbers.{be}
-use Rattle.attr_walk.specs.declared.Search.{Search}
-use Rattle.attr_walk.specs.declared.Search.TheVariants.{At, Missing}
+use Rattle.attr_walk.specs.declared.Attribute.{Attribute}
+use Rattle.std.specs.Prelude.{Option, Some, None}
 use Rattle.attr_walk.specs.Attributes.{attributes, first_of, count_of, kind_is}
 use Rattle.attr_survey.specs.Survey.{Kept, up_to_two, end_of, size_of}
 use Rattle.attr_survey.proofs.UpToTwo.{two_one, size_low, end_inside}
@@ -19,18 +19,18 @@ use Rattle.rule_stamp.specs.Stamp.{stamp_in, stamp_of}
 
 -- ---- of the first attribute of a type, if there is one
 
-of_six : (s : List ℕ) (x : Search) → size_of x ≡ 6 → Usable (be (end_of x - 4) 4 s) ≡ stamp_in s x
-of_six s (At a) h = let e : a.at + a.size - 4 ≡ a.at + 2 = omega arith in rw (eq-eqb _ _ h) (ap (λ (n : ℕ). Usable (be n 4 s)) e)
-of_six s Missing h = absurd (omega arith)
+of_six : (s : List ℕ) (x : Option Attribute) → size_of x ≡ 6 → Usable (be (end_of x - 4) 4 s) ≡ stamp_in s x
+of_six s (Some a) h = let e : a.at + a.size - 4 ≡ a.at + 2 = omega arith in rw (eq-eqb _ _ h) (ap (λ (n : ℕ). Usable (be n 4 s)) e)
+of_six s None h = absurd (omega arith)
 
-of_other : (s : List ℕ) (x : Search) → (size_of x ≡ 6 → ⊥) → Unusable ≡ stamp_in s x
-of_other s (At a) h = rw (ne_eqb _ _ h)
-of_other s Missing h = refl
+of_other : (s : List ℕ) (x : Option Attribute) → (size_of x ≡ 6 → ⊥) → Unusable ≡ stamp_in s x
+of_other s (Some a) h = rw (ne_eqb _ _ h)
+of_other s None h = refl
 
 -- ---- the answers of the code
 
 module _ (s count ends sizes : List ℕ) (i : Kept s count ends sizes) where
-  abbrev stamped : Search
+  abbrev stamped : Option Attribute
   stamped = first_of (kind_is 55) (attributes s)
 
   not-33 : ◌≡◌ {A = ℕ} 55 33 → ⊥
