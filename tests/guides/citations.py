@@ -54,7 +54,7 @@ class Repository:
         module = folder / f"{within[-1]}.rt"
         if module.exists():
             return self.defines(module, name)
-        methods = [f for f in folder.glob("*.rt") if re.search(rf"^impl {within[-1]}\b", f.read_text(), re.M)]
+        methods = [f for f in folder.glob("*.rt") if re.search(rf"^impl(?:<[^>]*>)? {within[-1]}\b", f.read_text(), re.M)]
         return any(re.search(rf"^    pub fn {re.escape(name)}\b", f.read_text(), re.M) for f in methods)
 
 

@@ -1,29 +1,16 @@
 -- The rules as the code reads them off a class: one law for each answer, and the same of the class of a type.
 -- Assumes nothing.
 use mathlib.Core.Path.{◌≡◌, refl, sym, ap, ◌∙◌}
-use mathlib.Core.Bool.{Bool, true, false, cond, not, ◌&&◌, ◌||◌}
-use Prim.Native.Nat.{ℕ, ◌/◌, ◌%◌}
+use mathlib.Core.Bool.{Bool, true, false, cond, not}
+use Prim.Native.Nat.{ℕ}
 use lib.Dec.{eqb}
-use borrow.Author.Tests.{eq-eqb, ne_eqb, eqb-true}
+use borrow.Author.Tests.{ne_eqb, eqb-true}
 use Rattle.attr_types.specs.Types.{supported, misfit_of}
 use Rattle.attr_types.specs.Classes.{class_of, says}
 use Rattle.attr_types.specs.Classes.{lacking, misfit_by}
 use Rattle.attr_types.proofs.Entries.{says_coa, says_disconnect, says_six, says_filled, says_repeats}
 
-pub says-bit : (w class : ℕ) → eqb (class / w % 2) 1 ≡ says w class
-unfolding says
-says-bit w class = refl
-
 -- ---- 401
-
-module _ (code class : ℕ) (b : Bool) where
-  pub lacks_coa : code ≡ 43 → b ≡ says 1 class → not b ≡ lacking code class
-  unfolding lacking
-  lacks_coa e q = rw (eq-eqb code 43 e) (ap not q)
-
-  pub lacks_other : (code ≡ 43 → ⊥) → b ≡ says 2 class → not b ≡ lacking code class
-  unfolding lacking
-  lacks_other e q = rw (ne_eqb code 43 e) (ap not q)
 
 lack_case : (code k : ℕ) (b : Bool) → eqb code 43 ≡ b → cond b (supported 43 k) (supported 40 k) ≡ supported code k
 unfolding supported
@@ -35,39 +22,6 @@ unfolding lacking
 lacks_class code k = rw (says_coa k, says_disconnect k) (ap not (lack_case code k _ refl))
 
 -- ---- 404, lengths
-
-module _ (class size : ℕ) where
-  no_length : (s f : Bool) → size ≡ 6 → ((s && not (eqb size 6)) || (f && eqb size 2)) ≡ false
-  no_length true true e = rw e
-  no_length true false e = rw e
-  no_length false true e = rw e
-  no_length false false e = refl
-
-  pub misfit_6 : size ≡ 6 → false ≡ misfit_by class size
-  unfolding misfit_by
-  misfit_6 e = sym (no_length (says 4 class) (says 8 class) e)
-
-  module _ (n : size ≡ 6 → ⊥) (b : Bool) (p : b ≡ says 4 class) where
-    pub misfit_six : b ≡ true → true ≡ misfit_by class size
-    unfolding misfit_by
-    misfit_six e = rw (sym p ∙ e, ne_eqb size 6 n)
-
-    module _ (o : b ≡ false) where
-      two : (f g : Bool) → g ≡ true → f ≡ (f && g)
-      two true g e = sym e
-      two false g e = refl
-
-      pub misfit_filled : size ≡ 2 → (f : Bool) → f ≡ says 8 class → f ≡ misfit_by class size
-      unfolding misfit_by
-      misfit_filled e f q = rw (sym p ∙ o) (q ∙ two _ _ (eq-eqb size 2 e))
-
-      neither : (f g : Bool) → g ≡ false → false ≡ (f && g)
-      neither true g e = sym e
-      neither false g e = refl
-
-      pub misfit_none : (size ≡ 2 → ⊥) → false ≡ misfit_by class size
-      unfolding misfit_by
-      misfit_none e = rw (sym p ∙ o) (neither (says 8 class) _ (ne_eqb size 2 e))
 
 pub misfit_class : (k size : ℕ) → misfit_by (class_of k) size ≡ misfit_of k size
 unfolding misfit_by misfit_of

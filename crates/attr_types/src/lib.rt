@@ -66,14 +66,16 @@ pub fn table() -> [u8; 256]
 }
 
 // The class of a type.
+#[tactic(auto, using(crate::proofs::Entries::class_entry))]
 pub fn class_in(table: &[u8; 256], kind: u8) -> u8
     requires { table.now ≡ classes }
     ensures { result ≡ class_of kind }
 {
-    table[kind as usize]
+    table[usize::from(kind)]
 }
 
 // One of the eight answers of a class, named by its weight: 1, 2, 4 .. 128.
+#[tactic(auto, unfolding(crate::specs::Classes::says))]
 pub fn says(weight: u8, class: u8) -> bool
     requires { 0 < weight }
     ensures { result ≡ says weight class }
@@ -82,27 +84,18 @@ pub fn says(weight: u8, class: u8) -> bool
 }
 
 // 401: a request of this code may not have an attribute of this class.
+#[tactic(auto, unfolding(crate::specs::Classes::lacking))]
 pub fn lacks(code: u8, class: u8) -> bool
     ensures { result ≡ lacking code class }
 {
-    if code == 43 {
-        return !says(1, class);
-    }
-    !says(2, class)
+    let weight = if code == 43 { 1 } else { 2 };
+    !says(weight, class)
 }
 
 // 404: a length that the type may not have.
+#[tactic(auto, unfolding(crate::specs::Classes::misfit_by))]
 pub fn misfits(class: u8, size: u8) -> bool
     ensures { result ≡ misfit_by class size }
 {
-    if size == 6 {
-        return false;
-    }
-    if says(4, class) {
-        return true;
-    }
-    if size == 2 {
-        return says(8, class);
-    }
-    false
+    (size != 6 && says(4, class)) || (size == 2 && says(8, class))
 }

@@ -6,7 +6,7 @@ use Prim.Native.Nat.{ℕ, ◌+◌}
 use lib.ListN.{length}
 use Rattle.octet_numbers.specs.Numbers.{be}
 use Rattle.attr_walk.specs.Attributes.{step_at, walk_from}
-use Rattle.attr_vendor.specs.declared.Rate.TheVariants.{Unset, Is}
+use Rattle.std.specs.Prelude.{Some, None}
 use Rattle.attr_vendor.specs.declared.Vendor.TheVariants.{Other, Faulty, Sets}
 use Rattle.attr_vendor.specs.Vendor.{rate_of, item_of, items_from, group_in, vendor_of, unset}
 
@@ -29,7 +29,7 @@ unfolding vendor_of be rate_of item_of items_from group_in step_at walk_from
 none = refl
 
 -- a rate beside a group with the other, all 32 bits of it
-pub both : vendor_of (vendor ++ down ++ group up) ≡ Sets (record { down = Is 64000; up = Is 65748 })
+pub both : vendor_of (vendor ++ down ++ group up) ≡ Sets (record { down = Some 64000; up = Some 65748 })
 unfolding vendor_of be rate_of item_of items_from group_in step_at walk_from
 both = refl
 
@@ -39,7 +39,7 @@ unfolding vendor_of be rate_of item_of items_from group_in step_at walk_from
 twice = refl
 
 -- four groups deep, and five
-pub four : vendor_of (vendor ++ group (group (group (group down)))) ≡ Sets (record { down = Is 64000; up = Unset })
+pub four : vendor_of (vendor ++ group (group (group (group down)))) ≡ Sets (record { down = Some 64000; up = None })
 unfolding vendor_of be rate_of item_of items_from group_in step_at walk_from
 four = refl
 

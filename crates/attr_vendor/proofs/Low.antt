@@ -13,11 +13,8 @@ use Rattle.attr_walk.specs.declared.Attribute.{Attribute}
 use Rattle.attr_walk.specs.declared.Step.{Step}
 use Rattle.attr_walk.specs.declared.Step.TheVariants as S
 use Rattle.attr_walk.specs.Attributes.{step_at, on_step, walk, walk_from, value_of}
-use Rattle.attr_vendor.specs.declared.Rate.{Rate}
-use Rattle.attr_vendor.specs.declared.Rate.TheVariants.{Unset, Is}
+use Rattle.std.specs.Prelude.{Option, Some, None, Result, Ok, Err}
 use Rattle.attr_vendor.specs.declared.Rates.{Rates}
-use Rattle.attr_vendor.specs.declared.Read.{Read}
-use Rattle.attr_vendor.specs.declared.Read.TheVariants.{Good, Bad}
 use Rattle.attr_vendor.specs.declared.Vendor as D
 use Rattle.attr_vendor.specs.declared.Vendor.TheVariants.{Other, Faulty, Sets}
 use Rattle.attr_vendor.specs.Vendor.{on_read, once_at, rate_of, item_of, items_from, group_in, unset, rates_of, judged, vendor_of}
@@ -44,25 +41,26 @@ four_low l at h = omega (arith, h (at + 0), h (at + 1), h (at + 2), h (at + 3))
 
 -- ---- rates
 
-abbrev pub LowRate : Rate → Type 0
-LowRate Unset = Unit {0}
-LowRate (Is v) = v < 2 ^ 32
+abbrev pub LowRate : Option ℕ → Type 0
+LowRate None = Unit {0}
+LowRate (Some v) = v < 2 ^ 32
 
 pub record Low (h : Rates) : Type 0 where
   pub down : LowRate h.down
   pub up : LowRate h.up
 
-abbrev LowRead : Read → Type 0
-LowRead (Good h) = Low h
-LowRead (Bad p) = Unit {0}
+abbrev LowRead : Result Rates ℕ → Type 0
+LowRead (Ok h) = Low h
+LowRead (Err p) = Unit {0}
 
-once_low : (x : Rate) (at : ℕ) (h : Rates) → Low h → LowRead (once_at x at h)
-once_low Unset at h l = l
-once_low (Is v) at h l = tt
+once_low : (x : Option ℕ) (at : ℕ) (h : Rates) → Low h → LowRead (once_at x at h)
+once_low None at h l = l
+once_low (Some v) at h l = tt
 
 module _ (v : List ℕ) (bytes : Bytes v) where
   by_rate : (b6 b1 b2 : Bool) (a : Attribute) (h : Rates) → Low h
-      → LowRead (cond b6 (cond b1 (once_at h.down a.at (record { down = Is (be (a.at + 2) 4 v); up = h.up })) (cond b2 (once_at h.up a.at (record { down = h.down; up = Is (be (a.at + 2) 4 v) })) (Bad a.at))) (Bad a.at))
+      → LowRead (cond b6 (cond b1 (once_at h.down a.at (record { down = Some (be (a.at + 2) 4 v); up = h.up }))
+      (cond b2 (once_at h.up a.at (record { down = h.down; up = Some (be (a.at + 2) 4 v) })) (Err a.at))) (Err a.at))
   by_rate false b1 b2 a h l = tt
   by_rate true true b2 a h l = once_low h.down a.at _ (record { down = four_low v (a.at + 2) bytes; up = l.up })
   by_rate true false true a h l = once_low h.up a.at _ (record { down = l.down; up = four_low v (a.at + 2) bytes })
@@ -73,23 +71,23 @@ module _ (v : List ℕ) (bytes : Bytes v) where
   rate_low a h l = by_rate (eqb a.size 6) (eqb a.kind 1) (eqb a.kind 2) a h l
 
   -- ---- items, where groups are read by g
-  module _ (g : Attribute → Rates → Read) (group_low : (a : Attribute) (h : Rates) → Low h → LowRead (g a h)) where
+  module _ (g : Attribute → Rates → Result Rates ℕ) (group_low : (a : Attribute) (h : Rates) → Low h → LowRead (g a h)) where
     by_item : (b : Bool) (a : Attribute) (h : Rates) → Low h → LowRead (cond b (g a h) (rate_of v a h))
     by_item true a h l = group_low a h l
     by_item false a h l = rate_low a h l
 
-    on_read_lem : (x : Read) (f : Rates → Read) → LowRead x → ((h : Rates) → Low h → LowRead (f h)) → LowRead (on_read x f)
-    on_read_lem (Good h) f l k = k h l
-    on_read_lem (Bad p) f l k = tt
+    on_read_lem : (x : Result Rates ℕ) (f : Rates → Result Rates ℕ) → LowRead x → ((h : Rates) → Low h → LowRead (f h)) → LowRead (on_read x f)
+    on_read_lem (Ok h) f l k = k h l
+    on_read_lem (Err p) f l k = tt
 
-    abbrev turn : Attribute → (ℕ → Rates → Read) → ℕ → Rates → Read
+    abbrev turn : Attribute → (ℕ → Rates → Result Rates ℕ) → ℕ → Rates → Result Rates ℕ
     turn a rest at h = on_read (item_of g v a h) (rest (a.at + a.size))
 
-    abbrev walked : ℕ → ℕ → ℕ → Rates → Read
-    walked n at = walk {A = ℕ → Rates → Read} (λ p h. Good h) (λ p h. Bad p) turn v n at
+    abbrev walked : ℕ → ℕ → ℕ → Rates → Result Rates ℕ
+    walked n at = walk {A = ℕ → Rates → Result Rates ℕ} (λ p h. Ok h) (λ p h. Err p) turn v n at
 
     on_step_lem : (n at : ℕ) (x : Step) → ((next p : ℕ) (h : Rates) → Low h → LowRead (walked n next p h)) → (p : ℕ) (h : Rates) → Low h
-        → LowRead (on_step {A = ℕ → Rates → Read} (λ p h. Good h) (λ p h. Bad p) (λ a next. turn a (walked n next)) x p h)
+        → LowRead (on_step {A = ℕ → Rates → Result Rates ℕ} (λ p h. Ok h) (λ p h. Err p) (λ a next. turn a (walked n next)) x p h)
     unfolding item_of
     on_step_lem n at (S.Found a next) ih p h l =
         on_read_lem (item_of g v a h) (walked n next (a.at + a.size)) (by_item (eqb a.kind 3) a h l) (λ h' l'. ih next (a.at + a.size) h' l')
@@ -119,11 +117,11 @@ LowVendor Other = Unit {0}
 LowVendor (Faulty p) = Unit {0}
 LowVendor (Sets h) = Low h
 
-judged_low : (x : Read) → LowRead x → LowVendor (judged x)
-judged_low (Good h) l = l
-judged_low (Bad p) l = tt
+judged_low : (x : Result Rates ℕ) → LowRead x → LowVendor (judged x)
+judged_low (Ok h) l = l
+judged_low (Err p) l = tt
 
-by_vendor : (b c : Bool) (x : Read) → LowRead x → LowVendor (cond b (Faulty 0) (cond c (judged x) Other))
+by_vendor : (b c : Bool) (x : Result Rates ℕ) → LowRead x → LowVendor (cond b (Faulty 0) (cond c (judged x) Other))
 by_vendor true c x l = tt
 by_vendor false true x l = judged_low x l
 by_vendor false false x l = tt

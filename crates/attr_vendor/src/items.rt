@@ -1,96 +1,69 @@
-// A list of items and one item, each read by the other: an item that is a group is a list of items, which ends where the group ends. A group is read in what
-// stands before its end, so places count from the value's start everywhere.
+// A list of items and one item, each read by the other: an item that is a group is a list of items, which ends where the group ends.
+// A group is read in what stands before its end, so places count from the value's start everywhere.
+// An error is the place of the first item at fault.
 ghost use Rattle.std.specs.Prelude.{◌≡◌, ◌+◌, ◌≤◌, length};
-ghost use Rattle.attr_vendor.specs.declared.Rate.TheVariants.{Is};
-ghost use Rattle.attr_vendor.specs.Vendor.{once_at, rate_of, item_of, group_in, items_from, rates_of};
+ghost use Rattle.attr_vendor.specs.Vendor.{rate_of, item_of, group_in, items_from, rates_of};
 
-use crate::{Rate, Rates, Read};
+use crate::{Rates, UNSET};
 use attr_walk::{Attribute, Step};
 
-// A rate, set for the first time at place at; held is what was set of it before, with the rates that then hold.
-fn once(held: Rate, at: usize, with: Rates) -> Read
-    ensures { result ≡ once_at held at with }
-{
-    match held {
-        Rate::Unset => Read::Good(with),
-        Rate::Is(_) => Read::Bad(at),
-    }
-}
-
-// Item a of v, which is no group: 1 is the down rate, 2 the up rate.
-fn rate(v: &[u8], a: Attribute, held: Rates) -> Read
+// Item a of v, which is no group: 1 is the down rate, 2 the up rate. Each is set once; held is what was set before.
+#[tactic(auto, unfolding(crate::specs::Vendor::rate_of))]
+fn rate(v: &[u8], a: Attribute, held: Rates) -> Result<Rates, usize>
     requires { a.at + a.size ≤ length v.now }
     ensures { result ≡ rate_of v.now a held }
 {
-    let at = a.at;
-    let kind = a.kind;
-    let down = held.down;
-    let up = held.up;
     if a.size != 6 {
-        return Read::Bad(at);
+        return Err(a.at);
     }
-    let value = octet_numbers::be32(v, at + 2);
-    if kind == 1 {
-        let with = Rates {
-            down: Rate::Is(value),
-            up,
-        };
-        return once(down, at, with);
+    let value = octet_numbers::be32(v, a.at + 2);
+    match a.kind {
+        1 if held.down.is_none() => Ok(Rates {
+            down: Some(value),
+            ..held
+        }),
+        2 if held.up.is_none() => Ok(Rates {
+            up: Some(value),
+            ..held
+        }),
+        _ => Err(a.at),
     }
-    if kind == 2 {
-        let with = Rates {
-            down,
-            up: Rate::Is(value),
-        };
-        return once(up, at, with);
-    }
-    Read::Bad(at)
 }
 
 // Item a of v, where left more groups may be opened: 3 is a group.
 #[cycle(item_items)]
-fn item(v: &[u8], a: Attribute, left: usize, held: Rates) -> Read
+#[tactic(auto, using(crate::proofs::Turns::one_item))]
+fn item(v: &[u8], a: Attribute, left: usize, held: Rates) -> Result<Rates, usize>
     requires size_in_bounds { a.at + a.size ≤ length v.now }
     requires le_size { 2 ≤ a.size }
     ensures { result ≡ item_of (group_in left v.now) v.now a held }
 {
-    let at = a.at;
-    let kind = a.kind;
-    let size = a.size;
-    if kind == 3 {
-        if left == 0 {
-            return Read::Bad(at);
-        }
-        let end = at + size as usize;
-        return items(&v[..end], at + 2, left - 1, held);
+    if a.kind != 3 {
+        return rate(v, a, held);
     }
-    rate(v, a, held)
+    if left == 0 {
+        return Err(a.at);
+    }
+    let end = a.at + usize::from(a.size);
+    items(&v[..end], a.at + 2, left - 1, held)
 }
 
 // The items of v from a place on, where left more groups may be opened.
 #[cycle(item_items)]
-fn items(v: &[u8], from: usize, left: usize, held: Rates) -> Read
+#[tactic(auto, using(crate::proofs::Turns::item_list))]
+fn items(v: &[u8], from: usize, left: usize, held: Rates) -> Result<Rates, usize>
     ensures { result ≡ items_from (group_in left v.now) v.now from held }
 {
     let mut at = from;
-    let mut h = held;
+    let mut rates = held;
     loop {
         match attr_walk::step_at(v, at) {
-            Step::Found(a, next) => match item(v, a, left, h) {
-                Read::Good(more) => {
-                    h = more;
-                    at = next;
-                }
-                Read::Bad(p) => {
-                    return Read::Bad(p);
-                }
-            },
-            Step::End => {
-                return Read::Good(h);
+            Step::Found(a, next) => {
+                rates = item(v, a, left, rates)?;
+                at = next;
             }
-            Step::Bad => {
-                return Read::Bad(at);
-            }
+            Step::End => return Ok(rates),
+            Step::Bad => return Err(at),
         }
     }
 }
@@ -99,12 +72,8 @@ fn items(v: &[u8], from: usize, left: usize, held: Rates) -> Read
 const DEPTH: usize = 4;
 
 // The rates that the items after the four vendor bytes set.
-pub fn rates_in(v: &[u8]) -> Read
+pub fn rates_in(v: &[u8]) -> Result<Rates, usize>
     ensures { result ≡ rates_of v.now }
 {
-    let unset = Rates {
-        down: Rate::Unset,
-        up: Rate::Unset,
-    };
-    items(v, 4, DEPTH, unset)
+    items(v, 4, DEPTH, UNSET)
 }

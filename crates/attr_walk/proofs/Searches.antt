@@ -33,7 +33,8 @@ none_any p l h = any_count p l ∙ lt-leb 1 (count_of p l) (omega arith)
 
 -- ---- the first
 
-passes : (p : Attribute → Bool) (b a : Attribute) (x : Option Attribute) (t : Bool) → p b ≡ t → (x ≡ Some a → p a ≡ true) → cond t (Some b) x ≡ Some a → p a ≡ true
+passes : (p : Attribute → Bool) (b a : Attribute) (x : Option Attribute) (t : Bool) → p b ≡ t → (x ≡ Some a → p a ≡ true)
+    → cond t (Some b) x ≡ Some a → p a ≡ true
 passes p b a x true q ih e = let i : b ≡ a = cc in ap p (sym i) ∙ q
 passes p b a x false q ih e = ih e
 
@@ -43,7 +44,8 @@ first_passes p (b ∷ l) a e = passes p b a (first_of p l) (p b) refl (first_pas
 
 -- ---- at most one passes p: what holds of one holds of the first
 
-none_case : (b c : Bool) (a : Attribute) (x : Option Attribute) (n : ℕ) → cond b (suc n) n ≡ 0 → (n ≡ 0 → found x ≡ false) → found (cond (b && c) (Some a) x) ≡ false
+none_case : (b c : Bool) (a : Attribute) (x : Option Attribute) (n : ℕ) → cond b (suc n) n ≡ 0 → (n ≡ 0 → found x ≡ false)
+    → found (cond (b && c) (Some a) x) ≡ false
 none_case true c a x n h ih = absurd (omega arith)
 none_case false c a x n h ih = ih h
 
@@ -55,7 +57,8 @@ found_none : (c : Bool) (a : Attribute) (x : Option Attribute) → found x ≡ f
 found_none true a x h = refl
 found_none false a x h = h
 
-only_case : (q : Attribute → Bool) (b : Bool) (a : Attribute) (x y : Option Attribute) (n : ℕ) → cond b (suc n) n ≤ 1 → (n ≡ 0 → found x ≡ false) → (n ≤ 1 → found x ≡ on_first q y)
+only_case : (q : Attribute → Bool) (b : Bool) (a : Attribute) (x y : Option Attribute) (n : ℕ) → cond b (suc n) n ≤ 1
+    → (n ≡ 0 → found x ≡ false) → (n ≤ 1 → found x ≡ on_first q y)
     → found (cond (b && q a) (Some a) x) ≡ on_first q (cond b (Some a) y)
 only_case q true a x y n h z ih = found_none (q a) a x (z (omega arith))
 only_case q false a x y n h z ih = ih h
@@ -66,7 +69,8 @@ only p q (a ∷ l) h = only_case q (p a) a (first_of (λ b. p b && q b) l) (firs
 
 -- ---- one test or the other, and two lists
 
-or_case : (b c : Bool) (a : Attribute) (x y z : Option Attribute) → found x ≡ (found y || found z) → found (cond (b || c) (Some a) x) ≡ (found (cond b (Some a) y) || found (cond c (Some a) z))
+or_case : (b c : Bool) (a : Attribute) (x y z : Option Attribute) → found x ≡ (found y || found z)
+    → found (cond (b || c) (Some a) x) ≡ (found (cond b (Some a) y) || found (cond c (Some a) z))
 or_case true c a x y z e = refl
 or_case false false a x y z e = e
 or_case false true a x y z e = sym (or-true (found y))
@@ -75,7 +79,8 @@ pub any_or : (p q : Attribute → Bool) (l : List Attribute) → any (λ a. p a 
 any_or p q [] = refl
 any_or p q (a ∷ l) = or_case (p a) (q a) a (first_of (λ b. p b || q b) l) (first_of p l) (first_of q l) (any_or p q l)
 
-any_case : (b : Bool) (a : Attribute) (x y : Option Attribute) (t : Bool) → found x ≡ (found y || t) → found (cond b (Some a) x) ≡ (found (cond b (Some a) y) || t)
+any_case : (b : Bool) (a : Attribute) (x y : Option Attribute) (t : Bool) → found x ≡ (found y || t)
+    → found (cond b (Some a) x) ≡ (found (cond b (Some a) y) || t)
 any_case true a x y t e = refl
 any_case false a x y t e = e
 
@@ -95,11 +100,13 @@ pub first_after : (p : Attribute → Bool) (l m : List Attribute) → any p l �
 first_after p [] m h = refl
 first_after p (b ∷ l) m h = by_head (p b) (first_after p l m) h
   where
-    by_head : (t : Bool) → (any p l ≡ false → first_of p (l ++ m) ≡ first_of p m) → found (cond t (Some b) (first_of p l)) ≡ false → cond t (Some b) (first_of p (l ++ m)) ≡ first_of p m
+    by_head : (t : Bool) → (any p l ≡ false → first_of p (l ++ m) ≡ first_of p m) → found (cond t (Some b) (first_of p l)) ≡ false
+        → cond t (Some b) (first_of p (l ++ m)) ≡ first_of p m
     by_head true ih h = absurd (false≢true (sym h))
     by_head false ih h = ih h
 
 -- a test that does not look at the place is not changed where all places are
-pub count_map : (p : Attribute → Bool) (f : Attribute → Attribute) → ((a : Attribute) → p (f a) ≡ p a) → (l : List Attribute) → count_of p (map f l) ≡ count_of p l
+pub count_map : (p : Attribute → Bool) (f : Attribute → Attribute) → ((a : Attribute) → p (f a) ≡ p a) → (l : List Attribute)
+    → count_of p (map f l) ≡ count_of p l
 count_map p f e [] = refl
 count_map p f e (a ∷ l) = rw (e a, count_map p f e l)

@@ -1,7 +1,8 @@
 -- The attributes of a packet (document 01, "The packet"): an attribute is type, length (2 to 255, counting both), value.
 -- An area is the bytes of a packet from place 20 to its Length; places count from the area's start.
 -- Assumes nothing.
-use Rattle.std.specs.Prelude.{Bool, true, false, cond, ◌&&◌, List, [], ◌∷◌, ℕ, zero, suc, ◌+◌, ◌-◌, leb, eqb, length, get_or, Option, Some, None, is_some, find}
+use Rattle.std.specs.Prelude.{Bool, true, false, cond, ◌&&◌, List, [], ◌∷◌, ℕ, zero, suc, ◌+◌, ◌-◌}
+use Rattle.std.specs.Prelude.{leb, eqb, length, get_or, Option, Some, None, is_some, find}
 use Rattle.octet_numbers.specs.Runs.{part}
 use Rattle.attr_walk.specs.declared.Attribute.{Attribute}
 use Rattle.attr_walk.specs.declared.Step.{Step}

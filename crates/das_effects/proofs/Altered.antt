@@ -14,7 +14,7 @@ use Rattle.octet_numbers.specs.Numbers.{be}
 use Rattle.octet_numbers.specs.Runs.{part}
 use Rattle.octet_numbers.proofs.Numbers.{be-part}
 use Rattle.attr_walk.specs.declared.Attribute.{Attribute}
-use Rattle.attr_walk.specs.declared.Search.TheVariants.{At, Missing}
+use Rattle.std.specs.Prelude.{Some, None}
 use Rattle.attr_walk.specs.Attributes.{attributes, value_of, first_of, kind_is}
 use Rattle.table_criteria.specs.declared.Field.TheVariants.{UserName, CallingStation, SessionId}
 use Rattle.table_slots.specs.Slot.{slot_count, slot, live, nas_port, framed_address, session_timeout, idle_timeout, user_name, session_id, calling_station, filter_id}
@@ -62,30 +62,30 @@ module _ (area t : List ℕ) (k : ℕ) (h : k < slot_count t) (m : matches_in ar
 
   -- ---- the fields that it names, and not
 
-  pub timeout_after : (a : Attribute) → first_of (kind_is 27) (attributes area) ≡ At a → ((i : ℕ) → Fits w8 (get_or area i 0))
+  pub timeout_after : (a : Attribute) → first_of (kind_is 27) (attributes area) ≡ Some a → ((i : ℕ) → Fits w8 (get_or area i 0))
       → session_timeout (slot k (change_matching 43 area t)) ≡ be (a.at + 2) 4 area
   unfolding alteration_of
   timeout_after a e f = ap session_timeout slot_is ∙ timeout_set area (alteration_of area) (slot k t) (be (a.at + 2) 4 area) (ap (number_at area) e) (low area (a.at + 2) f) (rw long (omega arith))
 
-  pub timeout_same : first_of (kind_is 27) (attributes area) ≡ Missing → session_timeout (slot k (change_matching 43 area t)) ≡ session_timeout (slot k t)
+  pub timeout_same : first_of (kind_is 27) (attributes area) ≡ None → session_timeout (slot k (change_matching 43 area t)) ≡ session_timeout (slot k t)
   unfolding alteration_of
   timeout_same e = ap session_timeout slot_is ∙ timeout_kept area (alteration_of area) (slot k t) (ap (number_at area) e)
 
-  pub idle_after : (a : Attribute) → first_of (kind_is 28) (attributes area) ≡ At a → ((i : ℕ) → Fits w8 (get_or area i 0))
+  pub idle_after : (a : Attribute) → first_of (kind_is 28) (attributes area) ≡ Some a → ((i : ℕ) → Fits w8 (get_or area i 0))
       → idle_timeout (slot k (change_matching 43 area t)) ≡ be (a.at + 2) 4 area
   unfolding alteration_of
   idle_after a e f = ap idle_timeout slot_is ∙ idle_set area (alteration_of area) (slot k t) (be (a.at + 2) 4 area) (ap (number_at area) e) (low area (a.at + 2) f) (rw long (omega arith))
 
-  pub idle_same : first_of (kind_is 28) (attributes area) ≡ Missing → idle_timeout (slot k (change_matching 43 area t)) ≡ idle_timeout (slot k t)
+  pub idle_same : first_of (kind_is 28) (attributes area) ≡ None → idle_timeout (slot k (change_matching 43 area t)) ≡ idle_timeout (slot k t)
   unfolding alteration_of
   idle_same e = ap idle_timeout slot_is ∙ idle_kept area (alteration_of area) (slot k t) (ap (number_at area) e)
 
-  pub filter_after : (a : Attribute) → first_of (kind_is 11) (attributes area) ≡ At a → a.size ≤ 34 → filter_id (slot k (change_matching 43 area t)) ≡ value_of area a
+  pub filter_after : (a : Attribute) → first_of (kind_is 11) (attributes area) ≡ Some a → a.size ≤ 34 → filter_id (slot k (change_matching 43 area t)) ≡ value_of area a
   unfolding alteration_of
   filter_after a e g =
       ap filter_id slot_is ∙ filter_set area (alteration_of area) (slot k t) (a.at + 2) (a.size - 2) (ap text_at e) (rw long (omega arith)) ∙ whole area a g
 
-  pub filter_same : first_of (kind_is 11) (attributes area) ≡ Missing → filter_id (slot k (change_matching 43 area t)) ≡ filter_id (slot k t)
+  pub filter_same : first_of (kind_is 11) (attributes area) ≡ None → filter_id (slot k (change_matching 43 area t)) ≡ filter_id (slot k t)
   unfolding alteration_of
   filter_same e = ap filter_id slot_is ∙ filter_kept area (alteration_of area) (slot k t) (ap text_at e) was (rw long (omega arith))
 

@@ -9,8 +9,8 @@ use borrow.Author.Tests.{eq-eqb, ne_eqb}
 use lib.Dec.{lit<}
 use lib.ListN.{length, get_or}
 use Rattle.octet_numbers.specs.Numbers.{be}
-use Rattle.attr_walk.specs.declared.Search.{Search}
-use Rattle.attr_walk.specs.declared.Search.TheVariants.{At, Missing}
+use Rattle.attr_walk.specs.declared.Attribute.{Attribute}
+use Rattle.std.specs.Prelude.{Option, Some, None}
 use Rattle.attr_walk.specs.Attributes.{attributes, any, found, first_of, kind_is}
 use Rattle.attr_walk.proofs.Stands.{first_placed}
 use Rattle.attr_survey.specs.Survey.{Kept, end_of, size_of, seen_at}
@@ -29,15 +29,15 @@ use Rattle.das_effects.specs.Changes.{rates_named, rate_number, number_at, text_
 use Rattle.attr_lookup.specs.Lookup.{kept_place}
 use Rattle.das_effects.specs.Taken.{taken_number, taken_text}
 
-number_in : (area : List ℕ) (z : Search) (b : Bool) (end size : ℕ) → b ≡ found z → end ≡ end_of z → size ≡ size_of z
+number_in : (area : List ℕ) (z : Option Attribute) (b : Bool) (end size : ℕ) → b ≡ found z → end ≡ end_of z → size ≡ size_of z
     → cond b (N.Set (be (end - size + 2) 4 area)) N.Unchanged ≡ number_at area z
-number_in area (At a) b end size h e g = let o : end - size ≡ a.at = omega arith in rw (h, o)
-number_in area Missing b end size h e g = rw h
+number_in area (Some a) b end size h e g = let o : end - size ≡ a.at = omega arith in rw (h, o)
+number_in area None b end size h e g = rw h
 
-text_in : (z : Search) (b : Bool) (end size : ℕ) → b ≡ found z → end ≡ end_of z → size ≡ size_of z
+text_in : (z : Option Attribute) (b : Bool) (end size : ℕ) → b ≡ found z → end ≡ end_of z → size ≡ size_of z
     → cond b (T.Set (end - size + 2) (size - 2)) T.Unchanged ≡ text_at z
-text_in (At a) b end size h e g = let o : end - size ≡ a.at = omega arith in rw (h, o, g)
-text_in Missing b end size h e g = rw h
+text_in (Some a) b end size h e g = let o : end - size ≡ a.at = omega arith in rw (h, o, g)
+text_in None b end size h e g = rw h
 
 module _ (area : List ℕ) (count ends sizes : List ℕ) (surveyed : Kept area count ends sizes) where
   number_kept : (k : ℕ) → k < 256 → (k ≡ 33 → ⊥) → taken_number area k count ends sizes ≡ number_at area (first_of (kind_is k) (attributes area))
@@ -53,12 +53,12 @@ module _ (area : List ℕ) (count ends sizes : List ℕ) (surveyed : Kept area c
       text_in (first_of (kind_is k) (attributes area)) (seen_at count k) (get_or ends k 0) (get_or sizes k 0) (seen_any area count ends sizes surveyed k h n) known.end known.size
 
   -- a number of length 6 lies in the area
-  six_inside : (k : ℕ) (z : Search) → z ≡ first_of (kind_is k) (attributes area) → found z ≡ true → any misfitting (attributes area) ≡ false → member k six_types ≡ true → end_of z - size_of z + 2 + 4 ≤ length area
-  six_inside k (At a) e h misfit six =
+  six_inside : (k : ℕ) (z : Option Attribute) → z ≡ first_of (kind_is k) (attributes area) → found z ≡ true → any misfitting (attributes area) ≡ false → member k six_types ≡ true → end_of z - size_of z + 2 + 4 ≤ length area
+  six_inside k (Some a) e h misfit six =
       let size = first_six area k a misfit (sym e) six in
-      let inside = (first_placed (kind_is k) area (At a) a e refl).inside in
+      let inside = (first_placed (kind_is k) area (Some a) a e refl).inside in
       omega arith
-  six_inside k Missing e h misfit six = absurd (false≢true h)
+  six_inside k None e h misfit six = absurd (false≢true h)
 
   number_inside : (k : ℕ) → k < 256 → (k ≡ 33 → ⊥) → any misfitting (attributes area) ≡ false → member k six_types ≡ true → seen_at count k ≡ true → kept_place k ends sizes + 4 ≤ length area
   number_inside k h n misfit six seen =

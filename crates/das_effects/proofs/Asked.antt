@@ -9,8 +9,7 @@ use lib.Dec.{lit<}
 use lib.ListN.{get_or}
 use Rattle.octet_numbers.specs.Runs.{equal_bytes}
 use Rattle.attr_walk.specs.declared.Attribute.{Attribute}
-use Rattle.attr_walk.specs.declared.Search.{Search}
-use Rattle.attr_walk.specs.declared.Search.TheVariants.{At, Missing}
+use Rattle.std.specs.Prelude.{Option, Some, None}
 use Rattle.attr_walk.specs.Attributes.{attributes, value_of, found, first_of, kind_is, on_first}
 use Rattle.attr_walk.proofs.Searches.{only}
 use Rattle.attr_types.specs.Types.{first_repeated, none}
@@ -39,12 +38,12 @@ module _ (area s : List ℕ) where
   same x a = equal_bytes (value_of area a) (field_bytes x s)
 
   -- the criterion made of what was kept of the first of a type
-  first_asks : (x : Field) (k : ℕ) (ends sizes : List ℕ) (z : Search) → get_or ends k 0 ≡ end_of z → get_or sizes k 0 ≡ size_of z
+  first_asks : (x : Field) (k : ℕ) (ends sizes : List ℕ) (z : Option Attribute) → get_or ends k 0 ≡ end_of z → get_or sizes k 0 ≡ size_of z
       → all (meets area s) (cond (found z) (taken_criterion x k ends sizes ∷ []) []) ≡ not (on_first (λ a. not (same x a)) z)
   unfolding meets kept_value
-  first_asks x k ends sizes (At a) p q =
+  first_asks x k ends sizes (Some a) p q =
       rw (and-true, not-not (same x a)) (ap (λ (v : List ℕ). equal_bytes v (field_bytes x s)) (kept_attribute area a k ends sizes p q))
-  first_asks x k ends sizes Missing p q = refl
+  first_asks x k ends sizes None p q = refl
 
   -- what the attributes of a type ask
   abbrev by : ℕ → Field → Attribute → Bool

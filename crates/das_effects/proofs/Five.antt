@@ -7,8 +7,7 @@ use Prim.Native.Nat.{ℕ}
 use lib.Dec.{eqb}
 use borrow.Author.Tests.{eqb-true}
 use Rattle.attr_walk.specs.declared.Attribute.{Attribute}
-use Rattle.attr_walk.specs.declared.Search.{Search}
-use Rattle.attr_walk.specs.declared.Search.TheVariants.{At}
+use Rattle.std.specs.Prelude.{Option, Some}
 use Rattle.attr_walk.specs.Attributes.{any, found, first_of}
 use Rattle.octet_numbers.specs.Runs.{member}
 use Rattle.attr_types.specs.Types.{naming_types}
@@ -53,7 +52,7 @@ pub all_both : (f g : Attribute → Bool) (l : List Attribute) → all_of (λ a.
 all_both f g [] = refl
 all_both f g (a ∷ l) = rw (all_both f g l) (swap (f a) (g a) (all_of f l) (all_of g l))
 
-none_by : (b c r : Bool) (a : Attribute) (x : Search) → r ≡ not (found x) → (cond b c true && r) ≡ not (found (cond (b && not c) (At a) x))
+none_by : (b c r : Bool) (a : Attribute) (x : Option Attribute) → r ≡ not (found x) → (cond b c true && r) ≡ not (found (cond (b && not c) (Some a) x))
 none_by true true r a x e = e
 none_by true false r a x e = refl
 none_by false c r a x e = e

@@ -7,11 +7,9 @@ use Prim.Native.Nat.{ℕ, ◌^◌, ◌<◌}
 use native.Mathlib.Omega.{arith}
 use lib.Dec.{lit<}
 use lib.ListN.{get_or}
-use Rattle.attr_walk.specs.declared.Search.{Search}
-use Rattle.attr_walk.specs.declared.Search.TheVariants.{At, Missing}
+use Rattle.attr_walk.specs.declared.Attribute.{Attribute}
+use Rattle.std.specs.Prelude.{Option, Some, None}
 use Rattle.attr_walk.specs.Attributes.{attributes, value_of, found, first_of, kind_is}
-use Rattle.attr_vendor.specs.declared.Rate.{Rate}
-use Rattle.attr_vendor.specs.declared.Rate.TheVariants.{Unset, Is}
 use Rattle.attr_vendor.specs.declared.Rates.{Rates}
 use Rattle.attr_vendor.specs.declared.Vendor.{Vendor}
 use Rattle.attr_vendor.specs.declared.Vendor.TheVariants.{Other, Faulty, Sets}
@@ -23,14 +21,14 @@ use Rattle.attr_lookup.proofs.Values.{kept_attribute, seen_any}
 use Rattle.table_change.specs.declared.Number.TheVariants as N
 use Rattle.das_effects.specs.Changes.{rates_by, rates_at, rates_named, rate_number, alteration_of}
 
-first_rates : (area ends sizes : List ℕ) (z : Search) → found z ≡ true → get_or ends 26 0 ≡ end_of z → get_or sizes 26 0 ≡ size_of z
+first_rates : (area ends sizes : List ℕ) (z : Option Attribute) → found z ≡ true → get_or ends 26 0 ≡ end_of z → get_or sizes 26 0 ≡ size_of z
     → rates_by (vendor_of (kept_value area 26 ends sizes)) ≡ rates_at area z
-first_rates area ends sizes (At a) h p q = ap (λ (v : List ℕ). rates_by (vendor_of v)) (kept_attribute area a 26 ends sizes p q)
-first_rates area ends sizes Missing h p q = absurd (false≢true h)
+first_rates area ends sizes (Some a) h p q = ap (λ (v : List ℕ). rates_by (vendor_of v)) (kept_attribute area a 26 ends sizes p q)
+first_rates area ends sizes None h p q = absurd (false≢true h)
 
-no_rates : (area : List ℕ) (z : Search) → found z ≡ false → unset ≡ rates_at area z
-no_rates area (At a) h = absurd (true≢false h)
-no_rates area Missing h = refl
+no_rates : (area : List ℕ) (z : Option Attribute) → found z ≡ false → unset ≡ rates_at area z
+no_rates area (Some a) h = absurd (true≢false h)
+no_rates area None h = refl
 
 module _ (area count ends sizes : List ℕ) (kept : Kept area count ends sizes) (b : Bool) (is : b ≡ seen_at count 26) where
   seen : found (first_of (kind_is 26) (attributes area)) ≡ b
@@ -46,10 +44,10 @@ module _ (area count ends sizes : List ℕ) (kept : Kept area count ends sizes) 
   unfolding rates_named
   rates_none h = no_rates area (first_of (kind_is 26) (attributes area)) (seen ∙ h)
 
-pub number_unset : (r : Rate) → r ≡ Unset → N.Unchanged ≡ rate_number r
+pub number_unset : (r : Option ℕ) → r ≡ None → N.Unchanged ≡ rate_number r
 number_unset r e = rw e
 
-pub number_is : (r : Rate) (v : ℕ) → r ≡ Is v → N.Set v ≡ rate_number r
+pub number_is : (r : Option ℕ) (v : ℕ) → r ≡ Some v → N.Set v ≡ rate_number r
 number_is r v e = rw e
 
 pub by_other : (x : Vendor) → x ≡ Other → unset ≡ rates_by x
@@ -65,39 +63,39 @@ by_low Other l = unset_low
 by_low (Faulty p) l = unset_low
 by_low (Sets h) l = l
 
-at_low : (area : List ℕ) (z : Search) → Bytes area → Low (rates_at area z)
-at_low area (At a) b = by_low (vendor_in area a) (vendor_low (value_of area a) (value_low area a b))
-at_low area Missing b = unset_low
+at_low : (area : List ℕ) (z : Option Attribute) → Bytes area → Low (rates_at area z)
+at_low area (Some a) b = by_low (vendor_in area a) (vendor_low (value_of area a) (value_low area a b))
+at_low area None b = unset_low
 
 pub named_low : (area : List ℕ) → Bytes area → Low (rates_named area)
 unfolding rates_named
 named_low area b = at_low area (first_of (kind_is 26) (attributes area)) b
 
-rate_below : (x : Rate) (v : ℕ) → x ≡ Is v → LowRate x → v < 2 ^ 32
+rate_below : (x : Option ℕ) (v : ℕ) → x ≡ Some v → LowRate x → v < 2 ^ 32
 rate_below x v e l = subst LowRate e l
 
 module _ (area : List ℕ) (v : ℕ) (b : Bytes area) where
-  pub down_below : (rates_named area).down ≡ Is v → v < 2 ^ 32
+  pub down_below : (rates_named area).down ≡ Some v → v < 2 ^ 32
   down_below e = rate_below (rates_named area).down v e (named_low area b).down
 
-  pub up_below : (rates_named area).up ≡ Is v → v < 2 ^ 32
+  pub up_below : (rates_named area).up ≡ Some v → v < 2 ^ 32
   up_below e = rate_below (rates_named area).up v e (named_low area b).up
 
 -- ---- so a CoA sets them
 
 module _ (area : List ℕ) where
-  pub down_set : (v : ℕ) → (rates_named area).down ≡ Is v → (alteration_of area).down ≡ N.Set v
+  pub down_set : (v : ℕ) → (rates_named area).down ≡ Some v → (alteration_of area).down ≡ N.Set v
   unfolding alteration_of
   down_set v e = ap rate_number e
 
-  pub down_unset : (rates_named area).down ≡ Unset → (alteration_of area).down ≡ N.Unchanged
+  pub down_unset : (rates_named area).down ≡ None → (alteration_of area).down ≡ N.Unchanged
   unfolding alteration_of
   down_unset e = ap rate_number e
 
-  pub up_set : (v : ℕ) → (rates_named area).up ≡ Is v → (alteration_of area).up ≡ N.Set v
+  pub up_set : (v : ℕ) → (rates_named area).up ≡ Some v → (alteration_of area).up ≡ N.Set v
   unfolding alteration_of
   up_set v e = ap rate_number e
 
-  pub up_unset : (rates_named area).up ≡ Unset → (alteration_of area).up ≡ N.Unchanged
+  pub up_unset : (rates_named area).up ≡ None → (alteration_of area).up ≡ N.Unchanged
   unfolding alteration_of
   up_unset e = ap rate_number e

@@ -1,13 +1,10 @@
 -- What a request does to the sessions it names (document 01: "All matching sessions are changed", "A CoA writes only the fields that it names").
 -- The request is told by its code and the area of its attributes.
 -- Assumes nothing.
-use Rattle.std.specs.Prelude.{cond, List, ℕ, ◌+◌, ◌-◌, eqb}
+use Rattle.std.specs.Prelude.{cond, List, ℕ, ◌+◌, ◌-◌, eqb, Option, Some, None}
 use Rattle.octet_numbers.specs.Numbers.{be}
-use Rattle.attr_walk.specs.declared.Search.{Search}
-use Rattle.attr_walk.specs.declared.Search.TheVariants.{At, Missing}
+use Rattle.attr_walk.specs.declared.Attribute.{Attribute}
 use Rattle.attr_walk.specs.Attributes.{attributes, first_of, kind_is}
-use Rattle.attr_vendor.specs.declared.Rate.{Rate}
-use Rattle.attr_vendor.specs.declared.Rate.TheVariants.{Unset, Is}
 use Rattle.attr_vendor.specs.declared.Rates.{Rates}
 use Rattle.attr_vendor.specs.declared.Vendor.{Vendor}
 use Rattle.attr_vendor.specs.declared.Vendor.TheVariants.{Other, Faulty, Sets}
@@ -24,13 +21,13 @@ use Rattle.table_change.specs.Change.{change_where}
 use Rattle.das_effects.specs.Matching.{matches_in}
 
 -- the four bytes of a value as a number, and where a value lies; nothing where there is no such attribute
-abbrev pub number_at : List ℕ → Search → Number
-number_at area (At a) = N.Set (be (a.at + 2) 4 area)
-number_at area Missing = N.Unchanged
+abbrev pub number_at : List ℕ → Option Attribute → Number
+number_at area (Some a) = N.Set (be (a.at + 2) 4 area)
+number_at area None = N.Unchanged
 
-abbrev pub text_at : Search → Text
-text_at (At a) = T.Set (a.at + 2) (a.size - 2)
-text_at Missing = T.Unchanged
+abbrev pub text_at : Option Attribute → Text
+text_at (Some a) = T.Set (a.at + 2) (a.size - 2)
+text_at None = T.Unchanged
 
 -- the rates that a type 26 sets; one that is another vendor's or not well-formed sets none, and does not come here (401, 404)
 abbrev pub rates_by : Vendor → Rates
@@ -38,16 +35,16 @@ rates_by Other = unset
 rates_by (Faulty p) = unset
 rates_by (Sets h) = h
 
-abbrev pub rates_at : List ℕ → Search → Rates
-rates_at area (At a) = rates_by (vendor_in area a)
-rates_at area Missing = unset
+abbrev pub rates_at : List ℕ → Option Attribute → Rates
+rates_at area (Some a) = rates_by (vendor_in area a)
+rates_at area None = unset
 
 unfoldable pub rates_named : List ℕ → Rates
 rates_named area = rates_at area (first_of (kind_is 26) (attributes area))
 
-abbrev pub rate_number : Rate → Number
-rate_number Unset = N.Unchanged
-rate_number (Is v) = N.Set v
+abbrev pub rate_number : Option ℕ → Number
+rate_number None = N.Unchanged
+rate_number (Some v) = N.Set v
 
 -- what a CoA names: Session-Timeout (27), Idle-Timeout (28), Filter-Id (11), and the two rates of Vendor-Specific (26)
 unfoldable pub alteration_of : List ℕ → Alteration

@@ -4,22 +4,15 @@ ghost use Rattle.attr_survey.specs.Survey.{Kept};
 ghost use Rattle.das_effects.specs.Changes.{rates_by, rates_named, rate_number};
 
 use attr_types::VENDOR_SPECIFIC;
-use attr_vendor::{Rate, Rates, Vendor};
+use attr_vendor::{Rates, UNSET, Vendor};
 use table_change::Number;
-
-// No rate.
-const UNSET: Rates = Rates {
-    down: Rate::Unset,
-    up: Rate::Unset,
-};
 
 // The rates that a type 26 sets.
 fn rates_by(x: Vendor) -> Rates
     ensures { result ≡ rates_by x }
 {
     match x {
-        Vendor::Other => UNSET,
-        Vendor::Faulty(_) => UNSET,
+        Vendor::Other | Vendor::Faulty(_) => UNSET,
         Vendor::Sets(h) => h,
     }
 }
@@ -37,11 +30,11 @@ pub fn named(s: &[u8], count: &[u8; 256], ends: &[u16; 256], sizes: &[u8; 256]) 
 }
 
 // A rate as a number that a CoA sets, or not.
-pub fn number(rate: Rate) -> Number
+pub fn number(rate: Option<u32>) -> Number
     ensures { result ≡ rate_number rate }
 {
     match rate {
-        Rate::Unset => Number::Unchanged,
-        Rate::Is(v) => Number::Set(v),
+        None => Number::Unchanged,
+        Some(v) => Number::Set(v),
     }
 }

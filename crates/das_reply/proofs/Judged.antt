@@ -10,8 +10,7 @@ use lib.Dec.{eqb}
 use Rattle.octet_numbers.specs.Numbers.{be}
 use Rattle.octet_numbers.proofs.Bools.{neither, not-false}
 use Rattle.attr_walk.specs.declared.Attribute.{Attribute}
-use Rattle.attr_walk.specs.declared.Search.{Search}
-use Rattle.attr_walk.specs.declared.Search.TheVariants.{At, Missing}
+use Rattle.std.specs.Prelude.{Option, Some, None}
 use Rattle.attr_walk.specs.Attributes.{attributes, any, found, first_of, on_first, count_of, kind_is}
 use Rattle.attr_walk.proofs.Searches.{only}
 use Rattle.rule_stamp.specs.declared.Stamp.{Stamp}
@@ -30,9 +29,9 @@ six_case : (a : Attribute) (x : Stamp) (b : Bool) (v : ℕ) → eqb a.size 6 ≡
 six_case a x true v e h = eqb-true a.size 6 e
 six_case a x false v e h = let o : ◌≡◌ {A = ℕ} 0 1 = cc in absurd (omega arith)
 
-six_in : (s : List ℕ) (x : Search) (v : ℕ) → stamp_in s x ≡ Usable v → size_of x ≡ 6
-six_in s (At a) v h = six_case a (Usable (be (a.at + 2) 4 s)) (eqb a.size 6) v refl h
-six_in s Missing v h = let o : ◌≡◌ {A = ℕ} 0 1 = cc in absurd (omega arith)
+six_in : (s : List ℕ) (x : Option Attribute) (v : ℕ) → stamp_in s x ≡ Usable v → size_of x ≡ 6
+six_in s (Some a) v h = six_case a (Usable (be (a.at + 2) 4 s)) (eqb a.size 6) v refl h
+six_in s None v h = let o : ◌≡◌ {A = ℕ} 0 1 = cc in absurd (omega arith)
 
 six_once : (s : List ℕ) (b : Bool) (v : ℕ) → cond b (stamp_in s (first_of (kind_is 55) (attributes s))) Unusable ≡ Usable v → size_of (first_of (kind_is 55) (attributes s)) ≡ 6
 six_once s true v h = six_in s (first_of (kind_is 55) (attributes s)) v h
@@ -43,10 +42,10 @@ unfolding stamp_of
 stamp_six s v h = six_once s (eqb (count_of (kind_is 55) (attributes s)) 1) v h
 
 -- D5
-right_size : (auth secret p : List ℕ) (x : Search) → on_first (wrong_mac auth secret p) x ≡ false → found x ≡ true → size_of x ≡ 18
+right_size : (auth secret p : List ℕ) (x : Option Attribute) → on_first (wrong_mac auth secret p) x ≡ false → found x ≡ true → size_of x ≡ 18
 unfolding wrong_mac
-right_size auth secret p (At a) h g = eqb-true a.size 18 (not-false (eqb a.size 18) (neither _ _ h).0)
-right_size auth secret p Missing h g = absurd (false≢true g)
+right_size auth secret p (Some a) h g = eqb-true a.size 18 (not-false (eqb a.size 18) (neither _ _ h).0)
+right_size auth secret p None h g = absurd (false≢true g)
 
 pub mac_eighteen : (auth secret p : List ℕ) → bad_mac auth secret p ≡ false → any (kind_is 80) (attributes (area_of p)) ≡ true → size_of (first_of (kind_is 80) (attributes (area_of p))) ≡ 18
 unfolding bad_mac

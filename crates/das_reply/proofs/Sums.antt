@@ -10,8 +10,7 @@ use lib.Dec.{eqb}
 use lib.ListN.{length, length-append, length-take}
 use Rattle.octet_numbers.specs.Runs.{part}
 use Rattle.attr_walk.specs.declared.Attribute.{Attribute}
-use Rattle.attr_walk.specs.declared.Search.{Search}
-use Rattle.attr_walk.specs.declared.Search.TheVariants.{At, Missing}
+use Rattle.std.specs.Prelude.{Option, Some, None}
 use Rattle.attr_walk.specs.declared.Step.{Step}
 use Rattle.attr_walk.specs.declared.Step.TheVariants.{Found, End, Bad}
 use Rattle.attr_walk.specs.Attributes.{step_at, on_step, walk, walk_from, attributes, first_of, kind_is}
@@ -52,7 +51,7 @@ total_fits s = omega (arith, by_turns s (length s - 0) 0)
 
 -- ---- the first that passes a test, and every Proxy-State
 
-first_case : (t : Bool) (a : Attribute) (x : Search) (n : ℕ) → size_of x ≤ n → size_of (cond t (At a) x) ≤ cond t a.size 0 + n
+first_case : (t : Bool) (a : Attribute) (x : Option Attribute) (n : ℕ) → size_of x ≤ n → size_of (cond t (Some a) x) ≤ cond t a.size 0 + n
 first_case true a x n h = omega arith
 first_case false a x n h = omega arith
 
@@ -64,9 +63,9 @@ pub length-as_came : (s : List ℕ) (a : Attribute) → length (as_came s a) ≤
 unfolding part
 length-as_came s a = simp length-take (omega arith)
 
-pub length_found : (s : List ℕ) (x : Search) → length (if_found s x) ≤ size_of x
-length_found s (At a) = length-as_came s a
-length_found s Missing = omega arith
+pub length_found : (s : List ℕ) (x : Option Attribute) → length (if_found s x) ≤ size_of x
+length_found s (Some a) = length-as_came s a
+length_found s None = omega arith
 
 proxy_case : (t : Bool) (came rest : List ℕ) (z n : ℕ) → length came ≤ z → length rest ≤ n → length (cond t (came ++ rest) rest) ≤ cond t z 0 + n
 proxy_case true came rest z n h g = rw length-append (omega arith)

@@ -10,8 +10,7 @@ use lib.ListN.{length}
 use Rattle.octet_numbers.specs.Numbers.{be_bytes}
 use Rattle.octet_numbers.proofs.Numbers.{length-be_bytes}
 use Rattle.attr_walk.specs.declared.Attribute.{Attribute}
-use Rattle.attr_walk.specs.declared.Search.{Search}
-use Rattle.attr_walk.specs.declared.Search.TheVariants.{At, Missing}
+use Rattle.std.specs.Prelude.{Option, Some, None}
 use Rattle.attr_walk.specs.declared.Step.TheVariants.{Found}
 use Rattle.attr_walk.specs.Attributes.{step_at, value_of, attributes, first_of, kind_is}
 use Rattle.attr_walk.proofs.Searches.{first_passes}
@@ -28,9 +27,9 @@ use Rattle.packet_laws.proofs.Plain.{Plain, plain_nil, plain_both, plain_bytes}
 came_plain : (s : List ℕ) (a : Attribute) → step_at s a.at ≡ Found a (a.at + a.size) → (a.kind ≡ 80 → ⊥) → Plain (as_came s a)
 came_plain s a q h = rw (placed_bytes s a.at a (a.at + a.size) (step_inv s a.at a (a.at + a.size) q)) (plain_bytes a.kind (value_of s a) h)
 
-found_plain : (s : List ℕ) (x : Search) → first_of (kind_is 24) (attributes s) ≡ x → Plain (if_found s x)
-found_plain s (At a) q = came_plain s a (first_stands (kind_is 24) s a q) (λ e. omega (arith, eqb-true a.kind 24 (first_passes (kind_is 24) (attributes s) a q)))
-found_plain s Missing q = plain_nil
+found_plain : (s : List ℕ) (x : Option Attribute) → first_of (kind_is 24) (attributes s) ≡ x → Plain (if_found s x)
+found_plain s (Some a) q = came_plain s a (first_stands (kind_is 24) s a q) (λ e. omega (arith, eqb-true a.kind 24 (first_passes (kind_is 24) (attributes s) a q)))
+found_plain s None q = plain_nil
 
 state_plain : (s : List ℕ) → Plain (state_part s)
 unfolding state_part

@@ -9,8 +9,7 @@ use borrow.Author.Tests.{eqb-true}
 use lib.Dec.{lit<}
 use lib.ListN.{get_or}
 use Rattle.attr_walk.specs.declared.Attribute.{Attribute}
-use Rattle.attr_walk.specs.declared.Search.{Search}
-use Rattle.attr_walk.specs.declared.Search.TheVariants.{At, Missing}
+use Rattle.std.specs.Prelude.{Option, Some, None}
 use Rattle.attr_walk.specs.declared.Step.TheVariants.{Found}
 use Rattle.attr_walk.specs.Attributes.{step_at, attributes, any, found, first_of, kind_is}
 use Rattle.attr_walk.proofs.Stands.{first_stands}
@@ -25,15 +24,15 @@ pub record First (s : List ℕ) (a : Attribute) : Type 0 where
   pub stands : step_at s a.at ≡ Found a (a.at + a.size)
   pub is : state_part s ≡ as_came s a
 
-state_of_lem : (s : List ℕ) (z : Search) (end size : ℕ) → first_of (kind_is 24) (attributes s) ≡ z → found z ≡ true → end ≡ end_of z → size ≡ size_of z
+state_of_lem : (s : List ℕ) (z : Option Attribute) (end size : ℕ) → first_of (kind_is 24) (attributes s) ≡ z → found z ≡ true → end ≡ end_of z → size ≡ size_of z
     → First s (record { kind = 24; at = end - size; size = size })
 unfolding state_part
-state_of_lem s (At a) end size q h e g =
+state_of_lem s (Some a) end size q h e g =
     let k : a.kind ≡ 24 = eqb-true a.kind 24 (first_passes (kind_is 24) (attributes s) a q) in
     let o : end - size ≡ a.at = omega arith in
     let i : record { kind = 24; at = end - size; size = size } ≡ a = rw (o, g, ← k) in
     rw i (record { stands = first_stands (kind_is 24) s a q; is = ap (if_found s) q })
-state_of_lem s Missing end size q h e g = absurd (false≢true h)
+state_of_lem s None end size q h e g = absurd (false≢true h)
 
 module _ (s count ends sizes : List ℕ) (kept : Kept s count ends sizes) (r : Bool) (is : r ≡ seen_at count 24) where
   seen : any (kind_is 24) (attributes s) ≡ r
@@ -55,6 +54,6 @@ module _ (s count ends sizes : List ℕ) (kept : Kept s count ends sizes) (r : B
   unfolding state_part
   state_none h = go (first_of (kind_is 24) (attributes s)) (seen ∙ h)
     where
-      go : (z : Search) → found z ≡ false → if_found s z ≡ []
-      go (At a) e = absurd (false≢true (sym e))
-      go Missing e = refl
+      go : (z : Option Attribute) → found z ≡ false → if_found s z ≡ []
+      go (Some a) e = absurd (false≢true (sym e))
+      go None e = refl

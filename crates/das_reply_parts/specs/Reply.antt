@@ -1,12 +1,10 @@
 -- The reply to a request (document 01, "NAK causes", last paragraph): identifier of the request; its first State; on NAK Error-Cause; every Proxy-State in order; type 80 if the request had one.
 -- A reply is told by its cause: NoCause is an ACK, any other a NAK.
 -- Assumes nothing.
-use Rattle.std.specs.Prelude.{Bool, cond, List, [], ◌∷◌, ◌++◌, ℕ, ◌+◌}
+use Rattle.std.specs.Prelude.{Bool, cond, List, [], ◌∷◌, ◌++◌, ℕ, ◌+◌, Option, Some, None}
 use Rattle.octet_numbers.specs.Numbers.{be_bytes}
 use Rattle.octet_numbers.specs.Runs.{part}
 use Rattle.attr_walk.specs.declared.Attribute.{Attribute}
-use Rattle.attr_walk.specs.declared.Search.{Search}
-use Rattle.attr_walk.specs.declared.Search.TheVariants.{At, Missing}
 use Rattle.attr_walk.specs.Attributes.{attributes, any, first_of, kind_is}
 use Rattle.rule_causes.specs.declared.Cause.{Cause}
 use Rattle.rule_causes.specs.Causes.{applies, error_cause}
@@ -18,9 +16,9 @@ abbrev pub as_came : List ℕ → Attribute → List ℕ
 as_came s a = part a.at a.size s
 
 -- the one found, or nothing
-abbrev pub if_found : List ℕ → Search → List ℕ
-if_found s (At a) = as_came s a
-if_found s Missing = []
+abbrev pub if_found : List ℕ → Option Attribute → List ℕ
+if_found s (Some a) = as_came s a
+if_found s None = []
 
 -- the first State (24), no later one
 unfoldable pub state_part : List ℕ → List ℕ

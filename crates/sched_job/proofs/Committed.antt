@@ -8,8 +8,8 @@ use native.Mathlib.Omega.{arith}
 use borrow.Author.Tests.{eqb-true}
 use lib.Dec.{eqb}
 use lib.IntN.{ℤ}
-use Rattle.attr_walk.specs.declared.Search.{Search}
-use Rattle.attr_walk.specs.declared.Search.TheVariants.{At, Missing}
+use Rattle.attr_walk.specs.declared.Attribute.{Attribute}
+use Rattle.std.specs.Prelude.{Option, Some, None}
 use Rattle.attr_walk.specs.Attributes.{attributes, any, found, first_of, on_first, kind_is}
 use Rattle.attr_walk.proofs.Searches.{only}
 use Rattle.attr_types.specs.Types.{misfitting, first_repeated, none}
@@ -34,9 +34,9 @@ size_right : (b : Bool) (z : ℕ) → eqb z 18 ≡ b → not b ≡ false → z �
 size_right true z e h = eqb-true z 18 e
 size_right false z e h = absurd (true≢false h)
 
-right_first : (x : Search) → on_first (λ a. not (eqb a.size 18)) x ≡ false → found x ≡ true → size_of x ≡ 18
-right_first (At a) h g = size_right (eqb a.size 18) a.size refl h
-right_first Missing h g = absurd (false≢true g)
+right_first : (x : Option Attribute) → on_first (λ a. not (eqb a.size 18)) x ≡ false → found x ≡ true → size_of x ≡ 18
+right_first (Some a) h g = size_right (eqb a.size 18) a.size refl h
+right_first None h g = absurd (false≢true g)
 
 module _ (n v : ℕ) (q : List ℕ) (count ends sizes : List ℕ) (x : Stands n q v count ends sizes) where
   eighteen : any (kind_is 80) (attributes (area_of q)) ≡ true → size_of (first_of (kind_is 80) (attributes (area_of q))) ≡ 18

@@ -8,8 +8,8 @@ use native.Mathlib.Omega.{arith}
 use borrow.Author.Tests.{eq-eqb, ne_eqb}
 use lib.Dec.{eqb, lit<}
 use lib.ListN.{get_or}
-use Rattle.attr_walk.specs.declared.Search.{Search}
-use Rattle.attr_walk.specs.declared.Search.TheVariants.{At, Missing}
+use Rattle.attr_walk.specs.declared.Attribute.{Attribute}
+use Rattle.std.specs.Prelude.{Option, Some, None}
 use Rattle.attr_walk.specs.Attributes.{attributes, any, found, first_of, on_first, kind_is}
 use Rattle.attr_walk.proofs.Searches.{only}
 use Rattle.attr_survey.specs.Survey.{Kept, seen_at, size_of}
@@ -51,9 +51,9 @@ none-applies K.UnsupportedService h = absurd (true≢false h)
 none-applies K.SessionNotFound h = absurd (true≢false h)
 none-applies K.ResourcesUnavailable h = absurd (true≢false h)
 
-odd_first : (x : Search) (z : ℕ) → z ≡ size_of x → (found x && not (eqb z 18)) ≡ on_first (λ a. not (eqb a.size 18)) x
-odd_first (At a) z e = rw e
-odd_first Missing z e = refl
+odd_first : (x : Option Attribute) (z : ℕ) → z ≡ size_of x → (found x && not (eqb z 18)) ≡ on_first (λ a. not (eqb a.size 18)) x
+odd_first (Some a) z e = rw e
+odd_first None z e = refl
 
 and-false : (a : Bool) → false ≡ (a && false)
 and-false true = refl

@@ -9,8 +9,8 @@ use borrow.Author.Tests.{eqb-true, not-true}
 use lib.Dec.{eqb}
 use Rattle.octet_numbers.proofs.Equality.{and_both}
 use Rattle.nas_settings.specs.Settings.{Settings}
-use Rattle.attr_walk.specs.declared.Search.{Search}
-use Rattle.attr_walk.specs.declared.Search.TheVariants.{At, Missing}
+use Rattle.attr_walk.specs.declared.Attribute.{Attribute}
+use Rattle.std.specs.Prelude.{Option, Some, None}
 use Rattle.attr_walk.specs.Attributes.{attributes, any, found, first_of, on_first, kind_is}
 use Rattle.attr_walk.proofs.Searches.{only}
 use Rattle.attr_survey.specs.Survey.{size_of}
@@ -39,9 +39,9 @@ size_right : (b : Bool) (z : ℕ) → eqb z 18 ≡ b → not b ≡ false → z �
 size_right true z e h = eqb-true z 18 e
 size_right false z e h = absurd (true≢false h)
 
-right_first : (x : Search) → on_first (λ a. not (eqb a.size 18)) x ≡ false → found x ≡ true → size_of x ≡ 18
-right_first (At a) h g = size_right (eqb a.size 18) a.size refl h
-right_first Missing h g = absurd (false≢true g)
+right_first : (x : Option Attribute) → on_first (λ a. not (eqb a.size 18)) x ≡ false → found x ≡ true → size_of x ≡ 18
+right_first (Some a) h g = size_right (eqb a.size 18) a.size refl h
+right_first None h g = absurd (false≢true g)
 
 stamped_short : (q : List ℕ) (x : T.Stamp) (c : C.Cause) → stamp_of (area_of q) ≡ x → usable x ≡ true → form_of q ≡ 0
     → (any (kind_is 80) (attributes (area_of q)) ≡ true → size_of (first_of (kind_is 80) (attributes (area_of q))) ≡ 18) → reply_length q c ≤ 4096

@@ -3,13 +3,11 @@
 -- g is what the gate is set up with, t the table, b the reply buffer, p the request, clock the clock reading. The code's contract is these
 -- definitions.
 -- Assumes nothing.
-use Rattle.std.specs.Prelude.{true, false, cond, List, ◌++◌, ◌≡◌, ℕ, ◌+◌, ◌≤◌, ◌<◌, ℤ, length, get_or, replicate}
+use Rattle.std.specs.Prelude.{true, false, cond, List, ◌++◌, ◌≡◌, ℕ, ◌+◌, ◌≤◌, ◌<◌, ℤ, length, get_or, replicate, Some, None}
 use Rattle.octet_numbers.specs.Numbers.{be}
 use Rattle.octet_numbers.specs.Runs.{write}
 use Rattle.attr_walk.specs.declared.Attribute.{Attribute}
-use Rattle.attr_walk.specs.declared.Search.TheVariants.{At, Missing}
 use Rattle.attr_walk.specs.Attributes.{attributes, value_of, first_of, kind_is}
-use Rattle.attr_vendor.specs.declared.Rate.TheVariants.{Unset, Is}
 use Rattle.packet_auth.specs.Signing.{zeros, authenticator}
 use Rattle.table_slots.specs.Slot.{slot_count, slot, live, nas_port, framed_address, session_timeout, idle_timeout, user_name, session_id, calling_station, filter_id, down_rate, up_rate}
 use Rattle.table_change.specs.Change.{altered}
@@ -44,17 +42,17 @@ pub record Altered (area s s' : List ℕ) : Type 0 where
   -- its bytes: only the fields that the request names are written
   pub bytes : s' ≡ altered area (alteration_of area) s
   -- and so its fields
-  pub timeout : (a : Attribute) → first_of (kind_is 27) (attributes area) ≡ At a → Bytes area → session_timeout s' ≡ be (a.at + 2) 4 area
-  pub timeout_same : first_of (kind_is 27) (attributes area) ≡ Missing → session_timeout s' ≡ session_timeout s
-  pub idle : (a : Attribute) → first_of (kind_is 28) (attributes area) ≡ At a → Bytes area → idle_timeout s' ≡ be (a.at + 2) 4 area
-  pub idle_same : first_of (kind_is 28) (attributes area) ≡ Missing → idle_timeout s' ≡ idle_timeout s
-  pub filter : (a : Attribute) → first_of (kind_is 11) (attributes area) ≡ At a → filter_id s' ≡ value_of area a
-  pub filter_same : first_of (kind_is 11) (attributes area) ≡ Missing → filter_id s' ≡ filter_id s
+  pub timeout : (a : Attribute) → first_of (kind_is 27) (attributes area) ≡ Some a → Bytes area → session_timeout s' ≡ be (a.at + 2) 4 area
+  pub timeout_same : first_of (kind_is 27) (attributes area) ≡ None → session_timeout s' ≡ session_timeout s
+  pub idle : (a : Attribute) → first_of (kind_is 28) (attributes area) ≡ Some a → Bytes area → idle_timeout s' ≡ be (a.at + 2) 4 area
+  pub idle_same : first_of (kind_is 28) (attributes area) ≡ None → idle_timeout s' ≡ idle_timeout s
+  pub filter : (a : Attribute) → first_of (kind_is 11) (attributes area) ≡ Some a → filter_id s' ≡ value_of area a
+  pub filter_same : first_of (kind_is 11) (attributes area) ≡ None → filter_id s' ≡ filter_id s
   -- the rates that its Vendor-Specific attribute (26) sets, and no other
-  pub down : (v : ℕ) → (rates_named area).down ≡ Is v → Bytes area → down_rate s' ≡ v
-  pub down_same : (rates_named area).down ≡ Unset → down_rate s' ≡ down_rate s
-  pub up : (v : ℕ) → (rates_named area).up ≡ Is v → Bytes area → up_rate s' ≡ v
-  pub up_same : (rates_named area).up ≡ Unset → up_rate s' ≡ up_rate s
+  pub down : (v : ℕ) → (rates_named area).down ≡ Some v → Bytes area → down_rate s' ≡ v
+  pub down_same : (rates_named area).down ≡ None → down_rate s' ≡ down_rate s
+  pub up : (v : ℕ) → (rates_named area).up ≡ Some v → Bytes area → up_rate s' ≡ v
+  pub up_same : (rates_named area).up ≡ None → up_rate s' ≡ up_rate s
   pub port_same : nas_port s' ≡ nas_port s
   pub address_same : framed_address s' ≡ framed_address s
   pub user_same : user_name s' ≡ user_name s

@@ -6,8 +6,8 @@ use mathlib.Core.List.{List, [], ◌++◌}
 use Prim.Native.Nat.{ℕ, ◌+◌}
 use native.Mathlib.Omega.{arith}
 use lib.ListN.{length, length-append}
-use Rattle.attr_walk.specs.declared.Search.{Search}
-use Rattle.attr_walk.specs.declared.Search.TheVariants.{At, Missing}
+use Rattle.attr_walk.specs.declared.Attribute.{Attribute}
+use Rattle.std.specs.Prelude.{Option, Some, None}
 use Rattle.attr_walk.specs.Attributes.{attributes, any, found, first_of, on_first, count_of, kind_is}
 use Rattle.attr_walk.proofs.Searches.{any_none, only}
 use Rattle.packet_auth.specs.Signing.{zeros}
@@ -17,9 +17,9 @@ use Rattle.packet_mac.specs.Discards.{wrong_mac, bad_mac}
 use Rattle.das_reply_parts.specs.Reply.{if_found, state_part, cause_part, proxy_part, body_of, maced, reply_length}
 use Rattle.packet_write.specs.Packets.{mac_valued, packet_length}
 
-not_found : (x : Search) → found x ≡ false → x ≡ Missing
-not_found (At a) h = absurd (true≢false h)
-not_found Missing h = refl
+not_found : (x : Option Attribute) → found x ≡ false → x ≡ None
+not_found (Some a) h = absurd (true≢false h)
+not_found None h = refl
 
 module _ (p : List ℕ) (no_80 : any (kind_is 80) (attributes (area_of p)) ≡ false) where
   pub no_mac : (auth secret : List ℕ) → bad_mac auth secret p ≡ false

@@ -9,8 +9,7 @@ use borrow.Author.Tests.{eqb-true}
 use lib.Dec.{eqb}
 use lib.ListN.{length}
 use Rattle.attr_walk.specs.declared.Attribute.{Attribute}
-use Rattle.attr_walk.specs.declared.Search.{Search}
-use Rattle.attr_walk.specs.declared.Search.TheVariants.{At}
+use Rattle.std.specs.Prelude.{Option, Some}
 use Rattle.attr_walk.specs.declared.Step.TheVariants.{Found}
 use Rattle.attr_walk.specs.Attributes.{step_at, attributes, any, found, first_of, kind_is}
 use Rattle.attr_walk.proofs.Steps.{step_inv}
@@ -43,7 +42,7 @@ three_sums (a ∷ l) = omega (arith, one a.kind a.size _ _ refl refl, three_sums
 abbrev Standing : List ℕ → List Attribute → Type 0
 Standing s l = (a : Attribute) → Memᴰ a l → step_at s a.at ≡ Found a (a.at + a.size)
 
-no_bytes : (a : Attribute) (x : Search) (t : Bool) (n : ℕ) → 2 ≤ a.size → cond t a.size 0 + n ≡ 0 → (n ≡ 0 → found x ≡ false) → found (cond t (At a) x) ≡ false
+no_bytes : (a : Attribute) (x : Option Attribute) (t : Bool) (n : ℕ) → 2 ≤ a.size → cond t a.size 0 + n ≡ 0 → (n ≡ 0 → found x ≡ false) → found (cond t (Some a) x) ≡ false
 no_bytes a x true n h e ih = absurd (omega arith)
 no_bytes a x false n h e ih = ih (omega arith)
 
@@ -74,7 +73,7 @@ module _ (q : Attribute → Bool) (at-55 : (a : Attribute) → a.kind ≡ 55 →
   meets-not a false true true i j k h = absurd (true≢false h)
   meets-not a false false e i j k h = absurd (true≢false h)
 
-  by_head : (a : Attribute) (x y : Search) (t : Bool) → strange a ≡ t → (found x ≡ false → found y ≡ false) → found (cond t (At a) x) ≡ false → found (cond (q a) (At a) y) ≡ false
+  by_head : (a : Attribute) (x y : Option Attribute) (t : Bool) → strange a ≡ t → (found x ≡ false → found y ≡ false) → found (cond t (Some a) x) ≡ false → found (cond (q a) (Some a) y) ≡ false
   by_head a x y true e ih h = absurd (true≢false h)
   by_head a x y false e ih h = rw (meets-not a _ _ _ refl refl refl e) (ih h)
 

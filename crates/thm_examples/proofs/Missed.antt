@@ -8,7 +8,7 @@ use native.Mathlib.Omega.{arith}
 use borrow.Author.Tests.{eqb-true}
 use lib.Dec.{eqb}
 use Rattle.attr_walk.specs.declared.Attribute.{Attribute}
-use Rattle.attr_walk.specs.declared.Search.TheVariants.{At}
+use Rattle.std.specs.Prelude.{Some}
 use Rattle.attr_walk.specs.Attributes.{attributes, any, found, first_of, count_of, kind_is}
 use Rattle.attr_types.specs.Types.{supported, unsupported_in, misfit_of, malformed, among, naming_types, first_repeated, also, none}
 use Rattle.rule_causes.specs.declared.Cause.TheVariants.{MissingAttribute}
@@ -23,7 +23,7 @@ abbrev Once : (ℕ → Bool) → List Attribute → Type 0
 Once seen l = count_of (kind_is 55) l + cond (seen 55) 1 0 ≤ 1
 
 again : (seen : ℕ → Bool) (a : Attribute) (l : List Attribute) (s t z : Bool) → kind_is 55 a ≡ s → kind_is 33 a ≡ t → seen 55 ≡ z
-    → found (cond (not (s || t)) (At a) (first_of other l)) ≡ false → cond s (suc (count_of (kind_is 55) l)) (count_of (kind_is 55) l) + cond z 1 0 ≤ 1
+    → found (cond (not (s || t)) (Some a) (first_of other l)) ≡ false → cond s (suc (count_of (kind_is 55) l)) (count_of (kind_is 55) l) + cond z 1 0 ≤ 1
     → ((before : ℕ → Bool) → any other l ≡ false → Once before l → found (first_repeated before l) ≡ false)
     → found (first_repeated seen (a ∷ l)) ≡ false
 again seen a l true t true i j k h g ih = absurd (omega arith)

@@ -8,9 +8,8 @@ use native.Mathlib.Omega.{arith}
 use lib.IntN.{ℤ}
 use Rattle.octet_numbers.specs.Numbers.{be}
 use Rattle.attr_walk.specs.declared.Attribute.{Attribute}
-use Rattle.attr_walk.specs.declared.Search.TheVariants.{At}
+use Rattle.std.specs.Prelude.{Some, None}
 use Rattle.attr_walk.specs.Attributes.{step_at, walk_from, attributes, value_of, first_of, kind_is}
-use Rattle.attr_vendor.specs.declared.Rate.TheVariants.{Unset, Is}
 use Rattle.attr_vendor.specs.declared.Rates.{Rates}
 use Rattle.attr_vendor.specs.Vendor.{rate_of, item_of, items_from, group_in, vendor_of}
 use Rattle.table_slots.specs.Slot.{slot_count, slot, down_rate, up_rate}
@@ -27,14 +26,14 @@ abbrev bytes : List ℕ
 bytes = 0x00 ∷ 0x00 ∷ 0x7E ∷ 0xD9 ∷ 0x03 ∷ 0x08 ∷ 0x01 ∷ 0x06 ∷ 0x00 ∷ 0x00 ∷ 0xFA ∷ 0x00 ∷ []
 
 abbrev slow : Rates
-slow = record { down = Is 64000; up = Unset }
+slow = record { down = Some 64000; up = None }
 
 computed : rates_by (vendor_of bytes) ≡ slow
 unfolding vendor_of be rate_of item_of items_from group_in step_at walk_from
 computed = refl
 
 module _ (g : Settings) (p : List ℕ) (clock : ℕ) (t b : List ℕ) (m n k : ℕ) (skew : ℤ) (a : Attribute) (ack : handle_answer g t b p clock ≡ Ack m skew n) (code : code_of p ≡ 43)
-    (first : first_of (kind_is 26) (attributes (area_of p)) ≡ At a) (value : value_of (area_of p) a ≡ bytes) (l : k < slot_count t) (h : matches_in (area_of p) t k ≡ true) where
+    (first : first_of (kind_is 26) (attributes (area_of p)) ≡ Some a) (value : value_of (area_of p) a ≡ bytes) (l : k < slot_count t) (h : matches_in (area_of p) t k ≡ true) where
   named : rates_named (area_of p) ≡ slow
   unfolding rates_named
   named = ap (rates_at (area_of p)) first ∙ ap (λ (v : List ℕ). rates_by (vendor_of v)) value ∙ computed

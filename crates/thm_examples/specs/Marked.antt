@@ -1,10 +1,9 @@
 -- Document 01's marked examples as one table, in its order and words, of a packet p at any gate g and clock; D1 to D3 whether it is rightly signed or not.
 -- Assumes nothing.
-use Rattle.std.specs.Prelude.{Bool, true, false, List, [], ◌∷◌, ◌++◌, ◌≡◌, ℕ, ◌+◌, ◌≤◌, ◌<◌, ℤ, pos, neg_ℤ, length, get_or}
+use Rattle.std.specs.Prelude.{Bool, true, false, List, [], ◌∷◌, ◌++◌, ◌≡◌, ℕ, ◌+◌, ◌≤◌, ◌<◌, ℤ, pos, neg_ℤ, length, get_or, Some}
 use Rattle.octet_numbers.specs.Numbers.{be}
 use Rattle.octet_numbers.specs.Runs.{write}
 use Rattle.attr_walk.specs.declared.Attribute.{Attribute}
-use Rattle.attr_walk.specs.declared.Search.TheVariants.{At}
 use Rattle.attr_walk.specs.Attributes.{attributes, tiled, value_of, any, first_of, count_of, kind_is}
 use Rattle.packet_blocks.specs.Block.{block_count}
 use Rattle.table_slots.specs.Slot.{slot_count, slot, live, down_rate, up_rate}
@@ -65,7 +64,7 @@ pub record Marked (g : Settings) (signed : Bool) (p : List ℕ) (clock : ℕ) : 
       × (length (reply_auth g.secret p SessionNotFound) ≡ 16) × (n ≡ 29)
   -- Of request 01: a CoA with vendor 32473 and the items 03 08 01 06 00 00 FA 00 sets the down rate to 64,000 and leaves the up rate, in every matching session
   pub rate : (t b : List ℕ) (m n k : ℕ) (skew : ℤ) (a : Attribute) → handle_answer g t b p clock ≡ Ack m skew n → code_of p ≡ 43
-      → first_of (kind_is 26) (attributes (area_of p)) ≡ At a
+      → first_of (kind_is 26) (attributes (area_of p)) ≡ Some a
       → value_of (area_of p) a ≡ 0x00 ∷ 0x00 ∷ 0x7E ∷ 0xD9 ∷ 0x03 ∷ 0x08 ∷ 0x01 ∷ 0x06 ∷ 0x00 ∷ 0x00 ∷ 0xFA ∷ 0x00 ∷ []
       → k < slot_count t → matches_in (area_of p) t k ≡ true
       → (down_rate (slot k (handle_table g t b p clock)) ≡ 64000) × (up_rate (slot k (handle_table g t b p clock)) ≡ up_rate (slot k t))

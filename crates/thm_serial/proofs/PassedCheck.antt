@@ -11,8 +11,8 @@ use borrow.Author.Tests.{eq-eqb, ltb-false}
 use lib.Dec.{eqb}
 use lib.IntN.{ℤ}
 use Rattle.octet_numbers.proofs.Bools.{neither}
-use Rattle.attr_walk.specs.declared.Search.{Search}
-use Rattle.attr_walk.specs.declared.Search.TheVariants.{At, Missing}
+use Rattle.attr_walk.specs.declared.Attribute.{Attribute}
+use Rattle.std.specs.Prelude.{Option, Some, None}
 use Rattle.attr_walk.specs.Attributes.{attributes, any, found, first_of, on_first, count_of, kind_is}
 use Rattle.attr_walk.proofs.Searches.{only}
 use Rattle.attr_survey.specs.Survey.{size_of}
@@ -40,9 +40,9 @@ pub record Passing (g : Settings) (signed : Bool) (p : List ℕ) (clock : ℕ) :
 
 -- ---- D5
 
-odd_first : (x : Search) → (found x ≡ true → size_of x ≡ 18) → on_first (λ a. not (eqb a.size 18)) x ≡ false
-odd_first (At a) h = rw (eq-eqb a.size 18 (h refl))
-odd_first Missing h = refl
+odd_first : (x : Option Attribute) → (found x ≡ true → size_of x ≡ 18) → on_first (λ a. not (eqb a.size 18)) x ≡ false
+odd_first (Some a) h = rw (eq-eqb a.size 18 (h refl))
+odd_first None h = refl
 
 no_odd : (secret p : List ℕ) → bad_mac zeros secret p ≡ false → any odd_mac (attributes (area_of p)) ≡ false
 unfolding bad_mac

@@ -11,7 +11,7 @@ abbrev pub decreases-items : goal.decreases-items
 decreases-items l = l.left + l.left + 1
 
 abbrev pub invariant-items-loop-a : goal.invariant-items-loop-a
-invariant-items-loop-a l = items_from (group_in l.left l.v) l.v l.from l.initial.h ≡ items_from (group_in l.left l.v) l.v l.at l.h
+invariant-items-loop-a l = items_from (group_in l.left l.v) l.v l.from l.initial.rates ≡ items_from (group_in l.left l.v) l.v l.at l.rates
 
 abbrev pub decreases-items-loop-a : goal.decreases-items-loop-a
 decreases-items-loop-a l = length l.v - l.at
