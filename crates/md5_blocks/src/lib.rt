@@ -7,15 +7,15 @@ ghost use Rattle.md5_ops.specs.Steps.{InPlace};
 
 use md5_ops::State;
 
-// Each word of p plus that of q.
+// Each word of p plus that of q. Not an impl of `Add`: by `+` a reader would not see that each sum is modulo 2^32.
 fn add_state(p: State, q: State) -> State
     ensures { result ≡ add_state p q }
 {
     State {
-        a: md5_ops::words::add(p.a, q.a),
-        b: md5_ops::words::add(p.b, q.b),
-        c: md5_ops::words::add(p.c, q.c),
-        d: md5_ops::words::add(p.d, q.d),
+        a: p.a.wrapping_add(q.a),
+        b: p.b.wrapping_add(q.b),
+        c: p.c.wrapping_add(q.c),
+        d: p.d.wrapping_add(q.d),
     }
 }
 
@@ -38,11 +38,8 @@ fn hash(q: State, w: &mut [u32], m: &[u8]) -> State
 {
     let t = md5_ops::sums::constants();
     let mut r = q;
-    let mut at = 0;
-    while 64 <= m.len() - at {
-        let e = at + 64;
-        r = block(r, &mut *w, &t, &m[at..e]);
-        at = e;
+    for k in 0..m.len() / 64 {
+        r = block(r, &mut *w, &t, &m[64 * k..64 * k + 64]);
     }
     r
 }

@@ -4,15 +4,15 @@ use mathlib.Core.Path.{◌≡◌, refl, ap, ◌∙◌}
 use mathlib.Core.Logic.{◌≢◌}
 use mathlib.Core.Bool.{Bool, true, ◌&&◌}
 use mathlib.Core.List.{List, [], ◌∷◌}
-use Prim.Native.Nat.{ℕ, zero, suc, ◌+◌, ◌*◌, ◌/◌, ◌%◌, ◌^◌, ◌<◌, ◌≤◌}
-use native.Mathlib.Nat.{add-zero, zero-add, add-suc, suc-add}
+use Prim.Native.Nat.{ℕ, zero, suc, ◌+◌, ◌%◌, ◌^◌, ◌<◌}
+use native.Mathlib.Nat.{add-zero, zero-add}
 use native.Mathlib.Omega.{arith}
 use lib.Dec.{T, eqb, eqb→eq}
 use lib.Ieee.Fits.{and_l, and_r}
 use lib.ListN.{length, get_or, set, length-set}
 use Rattle.md5_ops.specs.Table.{sines}
 use Rattle.md5_ops.specs.Md5.{word_at}
-use Rattle.md5_ops.specs.Steps.{InPlace, Words, Sums, place, put_at, put_word}
+use Rattle.md5_ops.specs.Steps.{InPlace, place, put_at, put_word}
 
 -- what stands at p after a store at i, by what it is at i and elsewhere
 at_set : (l : List ℕ) (i v p e : ℕ) → i < length l → (p ≡ i → v ≡ e) → (p ≢ i → get_or l p 0 ≡ e) → get_or (set l i v) p 0 ≡ e
@@ -27,19 +27,6 @@ pub record Read (m x : List ℕ) (j : ℕ) : Type 0 where
   pub long : length x ≡ 16
   pub word : (k : ℕ) → k < j → get_or x k 0 ≡ word_at m k
 
-pub read_none : (m x : List ℕ) → length x ≡ 16 → Read m x 0
-read_none m x l = record { long = l; word = λ k h. absurd (omega arith) }
-
-pub read_more : (m x : List ℕ) (j v : ℕ) → Read m x j → v ≡ word_at m j → j < 16 → Read m (set x j v) (j + 1)
-read_more m x j v r e h =
-    record {
-      long = length-set x j v ∙ r.long;
-      word = λ k b. at_set x j v k (word_at m k) (rw r.long h) (λ q. rw q e) (λ n. r.word k (omega arith));
-    }
-
-pub read_all : (m x : List ℕ) (j : ℕ) → Read m x j → 16 ≤ j → Words m x
-read_all m x j r e = record { word = λ k h. r.word k (omega arith) }
-
 -- what is to stand at place p
 abbrev sum_at : List ℕ → List ℕ → ℕ → ℕ
 sum_at x t p = (get_or x (p % 16) 0 + get_or t p 0) % 2 ^ 32
@@ -47,9 +34,6 @@ sum_at x t p = (get_or x (p % 16) 0 + get_or t p 0) % 2 ^ 32
 -- the sums of the first j words are put
 pub record Put (x t w : List ℕ) (j : ℕ) : Type 0 where
   pub sum : (p : ℕ) → p < 64 → p % 16 < j → get_or w p 0 ≡ sum_at x t p
-
-pub put_none : (x t w : List ℕ) → Put x t w 0
-put_none x t w = record { sum = λ p h b. absurd (omega arith) }
 
 -- one store more
 length_put : (w t : List ℕ) (x p : ℕ) → length (put_at w t x p) ≡ length w
@@ -83,9 +67,6 @@ put_more x t w v j r l h e =
           (λ n₁. at_put x t w j j p l (omega arith) (omega arith)
           (λ n₀. r.sum p b (omega arith))))));
     }
-
-pub put_all : (x t w : List ℕ) (j : ℕ) → Put x t w j → 16 ≤ j → Sums x t w
-put_all x t w j r e = record { sum = λ p h. r.sum p h (omega arith) }
 
 -- t has the entries of l, counted from i, at their places
 abbrev pub agree : List ℕ → List ℕ → ℕ → Bool

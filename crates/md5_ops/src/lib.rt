@@ -1,7 +1,7 @@
 // MD5 (RFC 1321): the words, and the 64 operations on a block.
 #![tactic(auto)]
 
-pub mod words; // words.rt: sums, rotations and the words of a block
+mod words; // words.rt: rotations, and the words of a block
 pub mod sums; // sums.rt: the words of a block with their constants
 mod steps; // steps.rt: one operation of the 64
 pub mod rounds; // rounds.rt: the four rounds
@@ -10,7 +10,7 @@ ghost use Rattle.std.specs.Prelude.{◌≡◌};
 ghost use Rattle.md5_ops.specs.Md5.{initial};
 
 // The chaining words A, B, C and D.
-#[derive(Clone, Copy)]
+#[derive(Clone, Copy, Debug, PartialEq, Eq)]
 pub struct State {
     pub a: u32,
     pub b: u32,

@@ -1,4 +1,6 @@
 // The four rounds of RFC 1321, 3.4, on the sums of a block. Numbers stand in every call, so that no test of i is left when compiled.
+#![tactic(auto, using(crate::proofs::Chain::in_four, crate::proofs::Chain::in_round, crate::proofs::Chain::in_all))]
+
 ghost use Rattle.std.specs.Prelude.{◌≡◌, ◌+◌, ◌<◌, length};
 ghost use Rattle.md5_ops.specs.Steps.{Shift, steps_from};
 

@@ -31,6 +31,7 @@ fn index_in(k: usize, i: usize) -> usize
 }
 
 // Where the sums have the word and the constant of operation i.
+#[tactic(auto, unfolding(crate::specs::Steps::place))]
 fn place(i: usize) -> usize
     requires { i < 64 }
     ensures { (result ≡ place i) × (result < 64) }
@@ -38,15 +39,15 @@ fn place(i: usize) -> usize
     i / 16 * 16 + index_in(i / 16, i)
 }
 
-// b + ((a + f + x) <<< s), and the words move on.
+// b + ((a + f + x) <<< s), and the words move on. f is added last, since it waits for the operation before.
 fn turn(q: State, f: u32, x: u32, s: u32) -> State
     requires { (0 < s) × (s < 32) }
     ensures { result ≡ turn q f x 0 s }
 {
-    let y = ((q.a as u64 + f as u64 + x as u64) % 0x1_0000_0000) as u32;
+    let y = q.a.wrapping_add(x).wrapping_add(f);
     State {
         a: q.d,
-        b: words::add(q.b, words::rotl(y, s)),
+        b: q.b.wrapping_add(words::rotl(y, s)),
         c: q.b,
         d: q.c,
     }

@@ -28,23 +28,23 @@ pub fn words(m: &[u8]) -> [u32; 16]
     ensures { Words m.now result }
 {
     let mut x = [0u32; 16];
-    let mut j = 0;
-    while j < 16 {
+    for j in 0..16 {
         x[j] = words::word_at(m, j);
-        j += 1;
     }
     x
 }
 
 // The sum of x and the number of t at place p.
+#[tactic(auto, unfolding(crate::specs::Steps::put_at))]
 fn put_at(w: &mut [u32], t: &[u32; 64], x: u32, p: usize)
     requires { (length w.old ≡ 64) × (p < 64) }
     ensures { w.new ≡ put_at w.old t.now x p }
 {
-    w[p] = words::add(x, t[p]);
+    w[p] = x.wrapping_add(t[p]);
 }
 
 // Word j with its constant of each round.
+#[tactic(auto, unfolding(crate::specs::Steps::put_word))]
 fn put_word(w: &mut [u32], t: &[u32; 64], x: u32, j: usize)
     requires { (length w.old ≡ 64) × (j < 16) }
     ensures { w.new ≡ put_word w.old t.now x j }
@@ -56,13 +56,12 @@ fn put_word(w: &mut [u32], t: &[u32; 64], x: u32, j: usize)
 }
 
 // Each word with its constant of each round.
+#[tactic(auto, using(crate::proofs::Filled::put_more))]
 pub fn put(w: &mut [u32], t: &[u32; 64], x: &[u32; 16])
     requires { length w.old ≡ 64 }
     ensures { Sums x.now t.now w.new }
 {
-    let mut j = 0;
-    while j < 16 {
+    for j in 0..16 {
         put_word(&mut *w, t, x[j], j);
-        j += 1;
     }
 }

@@ -4,15 +4,15 @@
 use mathlib.Core.Path.{◌≡◌, refl, sym, ap, ◌∙◌}
 use mathlib.Core.Bool.{Bool, true, false, cond, ◌&&◌, and_assoc, true≢false, false≢true}
 use mathlib.Core.List.{List, [], ◌∷◌, ◌++◌, reverse, reverse-append, reverse-reverse}
-use Prim.Native.Nat.{ℕ, zero, suc, ◌+◌, ◌-◌, ◌≤◌, ◌<◌}
+use Prim.Native.Nat.{ℕ, ◌+◌, ◌-◌, ◌≤◌}
 use native.Mathlib.Nat.{zero-add}
 use native.Mathlib.Omega.{arith}
-use borrow.Author.Tests.{eqb-true, eq-eqb, ne_eqb}
+use borrow.Author.Tests.{eq-eqb, ne_eqb}
 use lib.Dec.{eqb}
-use lib.ListN.{length, get_or, take, drop, length-reverse}
+use lib.ListN.{length, take, drop, length-reverse}
 use lib.Seq.{take-add, take_all}
 use Rattle.octet_numbers.specs.Runs.{part, equal_bytes}
-use Rattle.octet_numbers.proofs.Equality.{and_both, equal_true, equal_refl, equal_false, equal_length}
+use Rattle.octet_numbers.proofs.Equality.{and_both, equal_true, equal_refl, equal_false}
 use Rattle.octet_numbers.proofs.Part.{length_part}
 use Rattle.octet_runs.specs.declared.Compared as D
 use Rattle.octet_runs.specs.Compared.{pairs_from, same_text, pairs_compared, compared_of}

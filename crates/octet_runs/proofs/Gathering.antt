@@ -1,17 +1,16 @@
 -- The loop that gathers the differences of all bytes in d: the bytes looked at are equal exactly where it has gathered nothing.
 -- Assumes nothing.
 use mathlib.Core.Path.{◌≡◌, refl, sym, ap, ◌∙◌}
-use mathlib.Core.Bool.{Bool, true, false, ◌&&◌, and-true, and_assoc}
+use mathlib.Core.Bool.{Bool, true, false, ◌&&◌, and-true}
 use mathlib.Core.List.{List, [], ◌∷◌, ◌++◌}
 use Prim.Native.Nat.{ℕ, ◌+◌, ◌≤◌, ◌<◌}
-use native.Mathlib.Nat.{le_antisymm}
 use native.Mathlib.Numerals.{add-one}
 use native.Mathlib.Omega.{arith}
 use borrow.Author.Tests.{eqb-true, eqb-false, eq-eqb, ne_eqb}
 use lib.Bits.{bit_or, bit_xor, or_zero_l, xor_self, or_add_and, xor_add_and, and_le_l, and_le_r}
 use lib.Dec.{eqb}
-use lib.ListN.{length, get_or, take, drop, length-drop, drop_of_length-le}
-use lib.Seq.{drop-cons, take-suc, get_or-drop, length-take-le}
+use lib.ListN.{length, get_or, take, drop, length-drop}
+use lib.Seq.{take-suc, get_or-drop, length-take-le}
 use Rattle.octet_numbers.specs.Runs.{part, equal_bytes}
 use Rattle.octet_runs.proofs.Backward.{same_append}
 
@@ -46,7 +45,3 @@ gather_next a b i j n w d e ha hb h =
     gather d (get_or a (i + n) 0) (get_or b (j + n) 0) (equal_bytes (take n (drop i a)) (take n (drop j b))) (eqb (get_or a (i + n) 0) (get_or b (j + n) 0)) e refl
     ∙ sym (rw (add-one n, take-suc (drop i a) n 0 la, take-suc (drop j b) n 0 lb, get_or-drop i a n 0, get_or-drop j b n 0)
     (snoc (take n (drop i a)) (take n (drop j b)) (get_or a (i + n) 0) (get_or b (j + n) 0) l))
-
--- all n are gathered
-pub gather_all : (a b : List ℕ) (i j k n d : ℕ) → eqb d 0 ≡ equal_bytes (part i k a) (part j k b) → k ≤ n → n ≤ k → eqb d 0 ≡ equal_bytes (part i n a) (part j n b)
-gather_all a b i j k n d e h g = e ∙ ap (λ (m : ℕ). equal_bytes (part i m a) (part j m b)) (le_antisymm h g)

@@ -1,15 +1,14 @@
 -- The turns of the two loops that compare texts, by four bytes and by one: the general law of the bytes before place i, for these widths.
 -- Assumes nothing.
-use mathlib.Core.Path.{◌≡◌, refl, sym, ap, ◌∙◌}
+use mathlib.Core.Path.{◌≡◌, sym, ap, ◌∙◌}
 use mathlib.Core.Bool.{false}
 use mathlib.Core.List.{List, [], ◌∷◌, reverse}
 use Prim.Native.Nat.{ℕ, ◌+◌, ◌-◌, ◌≤◌, ◌<◌}
-use native.Mathlib.Numerals.{add-one}
 use native.Mathlib.Omega.{arith}
 use borrow.Author.Tests.{ne_eqb}
 use mir.Syntax.{w8}
 use mir.Val.{Fits}
-use lib.ListN.{length, get_or, take, drop}
+use lib.ListN.{length, get_or, take}
 use lib.Seq.{drop-cons}
 use Rattle.octet_numbers.specs.Numbers.{be, be_bytes}
 use Rattle.octet_numbers.specs.Runs.{part, equal_bytes}
@@ -59,11 +58,13 @@ module _
     one_b : part (i - 1) 1 b ≡ get_or b (i - 1) 0 ∷ []
     one_b = one b (i - 1) (omega arith)
 
-    pub bytes_apart : (get_or a (i - 1) 0 ≡ get_or b (i - 1) 0 → ⊥) → record { same = false; pairs = n - i + 1 } ≡ compared_of a b
+    pub bytes_apart : (get_or a (i - 1) 0 ≡ get_or b (i - 1) 0 → ⊥) → record { same = false; pairs = n - (i - 1) } ≡ compared_of a b
     unfolding pairs_from
     bytes_apart d =
-        apart a b n i same count la lb most (i - 1) 1 (omega arith) 1 (λ s. d (ap (λ (l : List ℕ). get_or l 0 0) (sym one_a ∙ s ∙ one_b)))
-        (rw (one_a, one_b, ne_eqb (get_or a (i - 1) 0) (get_or b (i - 1) 0) d))
+        let counted : n - (i - 1) ≡ n - i + 1 = omega arith in
+        rw counted
+        (apart a b n i same count la lb most (i - 1) 1 (omega arith) 1 (λ s. d (ap (λ (l : List ℕ). get_or l 0 0) (sym one_a ∙ s ∙ one_b)))
+        (rw (one_a, one_b, ne_eqb (get_or a (i - 1) 0) (get_or b (i - 1) 0) d)))
 
     same_one : get_or a (i - 1) 0 ≡ get_or b (i - 1) 0 → part (i - 1) 1 a ≡ part (i - 1) 1 b
     same_one e = one_a ∙ ap (λ (z : ℕ). z ∷ []) e ∙ sym one_b

@@ -14,17 +14,12 @@ pub use span::Span;
 pub fn slice(s: &[u8], at: usize, n: usize) -> &[u8]
     ensures { result.now ≡ part at n s.now }
 {
-    if s.len() <= at {
-        return &s[..0];
-    }
-    if s.len() - at <= n {
-        return &s[at..];
-    }
-    &s[at..at + n]
+    let rest = s.get(at..).unwrap_or(&[]);
+    rest.get(..n).unwrap_or(rest)
 }
 
 // What a comparison of two texts finds: whether they are the same, and how many byte pairs it compared.
-#[derive(Clone, Copy)]
+#[derive(Clone, Copy, Debug, PartialEq, Eq)]
 pub struct Compared {
     pub same: bool,
     pub pairs: usize,
@@ -34,13 +29,14 @@ pub struct Compared {
 fn pairs_in(x: u32, y: u32) -> usize
     ensures { (result ≡ pairs_from (reverse (be_bytes 4 x)) (reverse (be_bytes 4 y))) × (result ≤ 4) }
 {
-    if x % 256 != y % 256 {
+    let (p, q) = (x.to_le_bytes(), y.to_le_bytes());
+    if p[0] != q[0] {
         return 1;
     }
-    if x / 256 % 256 != y / 256 % 256 {
+    if p[1] != q[1] {
         return 2;
     }
-    if x / 65536 % 256 != y / 65536 % 256 {
+    if p[2] != q[2] {
         return 3;
     }
     4
@@ -58,6 +54,7 @@ pub fn compare(a: &[u8], b: &[u8]) -> Compared
             pairs: 0,
         };
     }
+    // A counted place: it goes down by four, and the loop after this goes on from where this one stops, which no range or iterator hands on.
     let mut i = n;
     while 4 <= i {
         let x = octet_numbers::be32(a, i - 4);
@@ -70,14 +67,13 @@ pub fn compare(a: &[u8], b: &[u8]) -> Compared
         }
         i -= 4;
     }
-    while 0 < i {
-        if a[i - 1] != b[i - 1] {
+    for j in (0..i).rev() {
+        if a[j] != b[j] {
             return Compared {
                 same: false,
-                pairs: n - i + 1,
+                pairs: n - j,
             };
         }
-        i -= 1;
     }
     Compared {
         same: true,
@@ -89,8 +85,7 @@ pub fn compare(a: &[u8], b: &[u8]) -> Compared
 pub fn equal(a: &[u8], b: &[u8]) -> bool
     ensures { result ≡ equal_bytes a.now b.now }
 {
-    let c = compare(a, b);
-    c.same
+    compare(a, b).same
 }
 
 // Whether 16 bytes of a and 16 of b are the same. It looks at all of them, wherever they differ: for authenticators.
@@ -99,10 +94,8 @@ pub fn equal16(a: &[u8], at: usize, b: &[u8], place: usize) -> bool
     ensures { result ≡ equal_bytes (part at 16 a.now) (part place 16 b.now) }
 {
     let mut d: u8 = 0;
-    let mut i = 0;
-    while i < 16 {
-        d = d | (a[at + i] ^ b[place + i]);
-        i += 1;
+    for i in 0..16 {
+        d |= a[at + i] ^ b[place + i];
     }
     d == 0
 }

@@ -17,11 +17,11 @@ returns-then-x-y c = search (rules, words_apart)
 pub loop-i-preserved : goal.loop-i-preserved
 loop-i-preserved c = search (rules, words_same, words_count)
 
-pub returns-then-a-i : goal.returns-then-a-i
-returns-then-a-i c = search (rules, bytes_apart)
+pub returns-then-a-j : goal.returns-then-a-j
+returns-then-a-j c = search (rules, bytes_apart)
 
-pub loop-i-2-preserved : goal.loop-i-2-preserved
-loop-i-2-preserved c = search (rules, bytes_same, bytes_count)
+pub loop-j-preserved : goal.loop-j-preserved
+loop-j-preserved c = search (rules, bytes_same, bytes_count)
 
 pub returns : goal.returns
 returns c = search (rules, done)

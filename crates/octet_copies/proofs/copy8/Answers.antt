@@ -1,7 +1,0 @@
--- `octet_copies::copy8` meets its contract: two writes of four bytes are one of the eight bytes read.
-use borrow.Author.Rules.{rules}
-use Rattle.octet_copies.proofs.Loops.{store_eight}
-use Rattle.octet_copies.proofs.copy8.Goals as goal
-
-pub returns : goal.returns
-returns c = search (rules, store_eight)
