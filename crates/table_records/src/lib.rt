@@ -10,14 +10,6 @@ mod session; // session.rt: what is recorded
 
 pub use session::Session;
 
-// A length below 256 as a byte.
-fn low(n: usize) -> u8
-    requires { n < 256 }
-    ensures { result ≡ n }
-{
-    n as u8
-}
-
 // Writes a text field of 1 + cap bytes: length, value, zeros.
 pub fn put_text(t: &mut [u8], at: usize, cap: usize, v: &[u8])
     requires { (cap < 256) × (at + 1 + cap ≤ length t.old) }
@@ -25,7 +17,7 @@ pub fn put_text(t: &mut [u8], at: usize, cap: usize, v: &[u8])
 {
     let kept = octet_runs::slice(v, 0, cap);
     let n = kept.len();
-    t[at] = low(n);
+    t[at] = n as u8;
     octet_copies::copy(&mut *t, at + 1, kept);
     octet_copies::fill(t, at + 1 + n, cap - n, 0);
 }
