@@ -1,59 +1,51 @@
 // What a pass kept of a type: for the rules that look at one type, and for those who want its value.
 #![tactic(auto)]
 
-ghost use Rattle.std.specs.Prelude.{◌≡◌, ◌-◌, ◌≤◌, get_or};
-ghost use Rattle.attr_survey.specs.Survey.{seen_at};
+ghost use Rattle.std.specs.Prelude.{◌≡◌, ◌≤◌};
+ghost use Rattle.attr_survey.specs.Noted.{noted_at, seen_at};
 ghost use Rattle.attr_lookup.specs.Lookup.{kept_start, kept_place, kept_size, kept_value};
 
-// a - b, and 0 where b is larger.
-fn less(a: usize, b: usize) -> usize
-    ensures { (result ≡ a - b) × (result ≤ a) }
-{
-    if a < b {
-        return 0;
-    }
-    a - b
-}
+use attr_survey::Survey;
 
 // Whether the pass met an attribute of this type. Of type 33 it kept nothing.
-pub fn has(count: &[u8; 256], kind: u8) -> bool
-    ensures { result ≡ seen_at count.now kind }
+pub fn has(survey: &Survey, kind: u8) -> bool
+    ensures { result ≡ seen_at survey.now.noted kind }
 {
-    count[kind as usize] != 0
+    survey.noted[usize::from(kind)].number != 0
 }
 
 // Where the first of this type ends.
-pub fn end_of(ends: &[u16; 256], kind: u8) -> usize
-    ensures { (result ≡ get_or ends.now kind 0) × (result ≤ 65535) }
+pub fn end_of(survey: &Survey, kind: u8) -> usize
+    ensures { (result ≡ (noted_at survey.now.noted kind).end) × (result ≤ 65535) }
 {
-    octet_numbers::wide16(ends[kind as usize])
+    usize::from(survey.noted[usize::from(kind)].end)
 }
 
 // Where it starts.
-pub fn start_of(ends: &[u16; 256], sizes: &[u8; 256], kind: u8) -> usize
-    ensures { (result ≡ kept_start kind ends.now sizes.now) × (result ≤ 65535) }
+pub fn start_of(survey: &Survey, kind: u8) -> usize
+    ensures { (result ≡ kept_start kind survey.now.noted) × (result ≤ 65535) }
 {
-    let end = octet_numbers::wide16(ends[kind as usize]);
-    less(end, octet_numbers::wide(sizes[kind as usize]))
+    let size = usize::from(survey.noted[usize::from(kind)].size);
+    end_of(survey, kind).saturating_sub(size)
 }
 
 // Where its value lies.
-pub fn place_of(ends: &[u16; 256], sizes: &[u8; 256], kind: u8) -> usize
-    ensures { result ≡ kept_place kind ends.now sizes.now }
+pub fn place_of(survey: &Survey, kind: u8) -> usize
+    ensures { result ≡ kept_place kind survey.now.noted }
 {
-    start_of(ends, sizes, kind) + 2
+    start_of(survey, kind) + 2
 }
 
 // How long its value is.
-pub fn size_of(sizes: &[u8; 256], kind: u8) -> usize
-    ensures { result ≡ kept_size kind sizes.now }
+pub fn size_of(survey: &Survey, kind: u8) -> usize
+    ensures { result ≡ kept_size kind survey.now.noted }
 {
-    less(octet_numbers::wide(sizes[kind as usize]), 2)
+    usize::from(survey.noted[usize::from(kind)].size).saturating_sub(2)
 }
 
 // Its value; empty where there is none.
-pub fn value_of<'a>(s: &'a [u8], ends: &[u16; 256], sizes: &[u8; 256], kind: u8) -> &'a [u8]
-    ensures { result.now ≡ kept_value s.now kind ends.now sizes.now }
+pub fn value_of<'a>(survey: &Survey<'a>, kind: u8) -> &'a [u8]
+    ensures { result.now ≡ kept_value survey.now.area.now kind survey.now.noted }
 {
-    octet_runs::slice(s, place_of(ends, sizes, kind), size_of(sizes, kind))
+    octet_runs::slice(survey.area, place_of(survey, kind), size_of(survey, kind))
 }

@@ -4,14 +4,15 @@ use mathlib.Core.Path.{◌≡◌}
 use mathlib.Core.List.{List}
 use Prim.Native.Nat.{ℕ}
 use Rattle.attr_survey.specs.declared.Flags.{Flags}
+use Rattle.attr_survey.specs.declared.counts.Noted.{Noted}
 use Rattle.attr_survey.specs.Survey.{Kept, Flagged}
 
 module _ (s t : List ℕ) (e : s ≡ t) where
-  pub kept_at : (count ends sizes : List ℕ) → Kept t count ends sizes → Kept s count ends sizes
-  kept_at count ends sizes h = rw e h
+  pub kept_at : (noted : List Noted) → Kept t noted → Kept s noted
+  kept_at noted h = rw e h
 
-  pub kept_of : (count ends sizes : List ℕ) → Kept s count ends sizes → Kept t count ends sizes
-  kept_of count ends sizes h = rw e at h
+  pub kept_of : (noted : List Noted) → Kept s noted → Kept t noted
+  kept_of noted h = rw e at h
 
   pub flagged_at : (code : ℕ) (f : Flags) → Flagged t code f → Flagged s code f
   flagged_at code f h = rw e h

@@ -16,8 +16,10 @@ use Rattle.attr_walk.proofs.Steps.{step_inv, found_placed}
 use Rattle.attr_walk.proofs.Walks.{walk_end, walk_bad, walk-found, tiles_end, tiles_bad}
 use Rattle.attr_survey.specs.declared.Flags.{Flags}
 use Rattle.attr_types.specs.Classes.{class_of, says}
-use Rattle.attr_survey.specs.Survey.{Kept, Typed, seen_at}
-use Rattle.attr_survey.specs.Turns.{joined_by, untiled, counted_at, kept_at}
+use Rattle.attr_survey.specs.declared.counts.Noted.{Noted}
+use Rattle.attr_survey.specs.Noted.{seen_at, note_at}
+use Rattle.attr_survey.specs.Survey.{Kept, Typed}
+use Rattle.attr_survey.specs.Turns.{joined_by, untiled}
 use Rattle.attr_types.proofs.Rules.{repeats_33, repeats_not}
 use Rattle.attr_survey.proofs.Held.{Held, ends_types}
 use Rattle.attr_survey.proofs.Turning.{turn_33, turn_empty, turn_other}
@@ -25,34 +27,34 @@ use Rattle.attr_survey.proofs.Turning.{turn_33, turn_empty, turn_other}
 pub end_fits : (s : List ℕ) (at next : ℕ) (a : Attribute) (x : Step) → x ≡ step_at s at → x ≡ Found a next → length s ≤ 4096 → Fits w16 next
 end_fits s at next a x q r l = let p = found_placed s at next a x q r in record { fits = omega arith }
 
-module _ (code : ℕ) (s : List ℕ) (w : List Attribute) (at : ℕ) (count ends sizes : List ℕ) (f : Flags) (i : Held code w (attributes_from s at) count ends sizes f) (x : Step) (q : x ≡ step_at s at) where
+module _ (code : ℕ) (s : List ℕ) (w : List Attribute) (at : ℕ) (noted : List Noted) (f : Flags) (i : Held code w (attributes_from s at) noted f) (x : Step) (q : x ≡ step_at s at) where
   module _ (a : Attribute) (next : ℕ) (r : x ≡ Found a next) where
-    here : Held code w (a ∷ attributes_from s next) count ends sizes f
-    here = subst (λ (l : List Attribute). Held code w l count ends sizes f) (walk-found _ _ _ s at a next (sym q ∙ r)) i
+    here : Held code w (a ∷ attributes_from s next) noted f
+    here = subst (λ (l : List Attribute). Held code w l noted f) (walk-found _ _ _ s at a next (sym q ∙ r)) i
 
     module _ (class : ℕ) (e : class ≡ class_of a.kind) (b : Bool) (t : b ≡ says 64 class) where
-      pub held_33 : b ≡ true → (a.size ≡ 2 → ⊥) → Held code w (attributes_from s next) count ends sizes f
-      held_33 y n = turn_33 code w (attributes_from s next) a count ends sizes f here (repeats_33 a.kind b (t ∙ ap (says 64) e) y) n
+      pub held_33 : b ≡ true → (a.size ≡ 2 → ⊥) → Held code w (attributes_from s next) noted f
+      held_33 y n = turn_33 code w (attributes_from s next) a noted f here (repeats_33 a.kind b (t ∙ ap (says 64) e) y) n
 
-      pub held_empty : b ≡ true → (g : Flags) → g ≡ joined_by code class a.size false f → Held code w (attributes_from s next) count ends sizes g
+      pub held_empty : b ≡ true → (g : Flags) → g ≡ joined_by code class a.size false f → Held code w (attributes_from s next) noted g
       held_empty y g d =
-          rw (d, e) (turn_empty code w (attributes_from s next) a count ends sizes f here (repeats_33 a.kind b (t ∙ ap (says 64) e) y))
+          rw (d, e) (turn_empty code w (attributes_from s next) a noted f here (repeats_33 a.kind b (t ∙ ap (says 64) e) y))
 
-      pub held_other : b ≡ false → a.kind < 256 → (again : Bool) → again ≡ seen_at count a.kind
-          → (count' ends' sizes' : List ℕ) → count' ≡ counted_at count a.kind → ends' ≡ kept_at count ends a.kind next → sizes' ≡ kept_at count sizes a.kind a.size
-          → (g : Flags) → g ≡ joined_by code class a.size again f → Held code w (attributes_from s next) count' ends' sizes' g
-      held_other y small again o count' ends' sizes' e1 e2 e3 g m =
-          rw (m, o, e, e1, e2 ∙ ap (kept_at count ends a.kind) (sym (step_inv s at a next (sym q ∙ r)).ends), e3)
-          (turn_other code w (attributes_from s next) a count ends sizes f here (repeats_not a.kind b (t ∙ ap (says 64) e) y) small)
+      pub held_other : b ≡ false → a.kind < 256 → (again : Bool) → again ≡ seen_at noted a.kind
+          → (noted' : List Noted) → noted' ≡ note_at noted a.kind next a.size
+          → (g : Flags) → g ≡ joined_by code class a.size again f → Held code w (attributes_from s next) noted' g
+      held_other y small again o noted' n g m =
+          rw (m, o, e, n ∙ ap (λ (end : ℕ). note_at noted a.kind end a.size) (sym (step_inv s at a next (sym q ∙ r)).ends))
+          (turn_other code w (attributes_from s next) a noted f here (repeats_not a.kind b (t ∙ ap (says 64) e) y) small)
 
-module _ (code : ℕ) (s : List ℕ) (at : ℕ) (count ends sizes : List ℕ) (f : Flags) (i : Held code (attributes_from s 0) (attributes_from s at) count ends sizes f) (x : Step) (q : x ≡ step_at s at) where
+module _ (code : ℕ) (s : List ℕ) (at : ℕ) (noted : List Noted) (f : Flags) (i : Held code (attributes_from s 0) (attributes_from s at) noted f) (x : Step) (q : x ≡ step_at s at) where
   module _ (e : attributes_from s at ≡ []) where
     -- nothing is left: what is held is the answer
-    whole : Held code (attributes s) [] count ends sizes f
-    whole = subst (λ (l : List Attribute). Held code (attributes s) l count ends sizes f) e i
+    whole : Held code (attributes s) [] noted f
+    whole = subst (λ (l : List Attribute). Held code (attributes s) l noted f) e i
 
-    kept : Kept s count ends sizes
-    kept = record { types = λ k h. ends_types code (attributes s) count ends sizes f whole k }
+    kept : Kept s noted
+    kept = record { types = λ k h. ends_types code (attributes s) noted f whole k }
 
     flagged : (t : Bool) → t ≡ tiled s
         → Typed s code (record { tiled = t; unsupported = f.unsupported; service = f.service; repeated = f.repeated; misfit = f.misfit; criterion = f.criterion; change = f.change })
@@ -67,10 +69,10 @@ module _ (code : ℕ) (s : List ℕ) (at : ℕ) (count ends sizes : List ℕ) (f
           change = sym (whole.change ∙ or-false f.change);
         }
 
-  pub kept_end : x ≡ End → Kept s count ends sizes
+  pub kept_end : x ≡ End → Kept s noted
   kept_end r = kept (walk_end _ _ _ s at (sym q ∙ r))
 
-  pub kept_bad : x ≡ Bad → Kept s count ends sizes
+  pub kept_bad : x ≡ Bad → Kept s noted
   kept_bad r = kept (walk_bad _ _ _ s at (sym q ∙ r))
 
   pub flags_end : tiled_from s 0 ≡ tiled_from s at → x ≡ End → Typed s code f

@@ -1,24 +1,25 @@
 -- What is counted is seen: a type that was counted once more is one type more that is seen, and no other.
 -- Assumes nothing.
 use mathlib.Core.Path.{◌≡◌, refl}
-use mathlib.Core.Bool.{Bool, true, false, ◌||◌}
+use mathlib.Core.Bool.{Bool, true, false, not, ◌||◌}
 use mathlib.Core.List.{List}
 use Prim.Native.Nat.{ℕ, ◌<◌}
 use lib.Dec.{eqb}
-use lib.ListN.{length, get_or}
+use lib.ListN.{length}
 use borrow.Author.Tests.{eqb-true, eqb-false}
 use Rattle.attr_types.specs.Types.{also}
-use Rattle.attr_survey.specs.Survey.{seen_at}
-use Rattle.attr_survey.specs.Turns.{counted_at}
-use Rattle.attr_survey.proofs.Notes.{counted_other, counted_new, counted_old}
+use Rattle.attr_survey.specs.declared.counts.Noted.{Noted}
+use Rattle.attr_survey.specs.Noted.{noted_at, seen_at, noted_more, note_at}
+use Rattle.attr_survey.proofs.Notes.{more_first, more_again, note_same, note_other}
 
-seen_new : (count : List ℕ) (k : ℕ) (z : Bool) → eqb (get_or count k 0) 0 ≡ z → k < length count → true ≡ seen_at (counted_at count k) k
-seen_new count k true e h = rw (counted_new count k (eqb-true _ _ e) h)
-seen_new count k false e h = rw (counted_old count k (eqb-false _ _ e) h)
+more_seen : (x : Noted) (end size : ℕ) (z : Bool) → eqb x.number 0 ≡ z → true ≡ not (eqb (noted_more x end size).number 0)
+more_seen x end size true e = rw (more_first x end size (eqb-true _ _ e))
+more_seen x end size false e = rw (more_again x end size (eqb-false _ _ e))
 
-seen_case : (count : List ℕ) (k j : ℕ) (b : Bool) → eqb j k ≡ b → k < length count → (b || seen_at count j) ≡ seen_at (counted_at count k) j
-seen_case count k j true e h = let q : j ≡ k = eqb-true _ _ e in rw q (seen_new count k _ refl h)
-seen_case count k j false e h = rw (counted_other count k j (eqb-false _ _ e))
+module _ (noted : List Noted) (k end size : ℕ) (h : k < length noted) where
+  seen_case : (j : ℕ) (b : Bool) → eqb j k ≡ b → (b || seen_at noted j) ≡ seen_at (note_at noted k end size) j
+  seen_case j true e = let q : j ≡ k = eqb-true _ _ e in rw (q, note_same noted k end size h) (more_seen (noted_at noted k) end size _ refl)
+  seen_case j false e = rw (note_other noted k end size j (eqb-false _ _ e))
 
-pub also_counted : (count : List ℕ) (k j : ℕ) → k < length count → also k (seen_at count) j ≡ seen_at (counted_at count k) j
-also_counted count k j h = seen_case count k j _ refl h
+  pub also_counted : (j : ℕ) → also k (seen_at noted) j ≡ seen_at (note_at noted k end size) j
+  also_counted j = seen_case j _ refl

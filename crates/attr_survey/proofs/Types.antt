@@ -11,21 +11,19 @@ use lib.Dec.{eqb}
 use lib.ListN.{length, get_or, replicate}
 use borrow.Author.Tests.{eq-eqb, eqb-true, eqb-false}
 use Rattle.attr_walk.specs.declared.Attribute.{Attribute}
-use Rattle.attr_walk.specs.declared.Search.{Search}
-use Rattle.attr_walk.specs.declared.Search.TheVariants.{At, Missing}
 use Rattle.attr_walk.specs.Attributes.{first_of, count_of, kind_is}
-use Rattle.attr_survey.specs.Survey.{zeros, up_to_two}
-use Rattle.attr_survey.specs.Turns.{counted_at, kept_at}
-use Rattle.attr_survey.proofs.Notes.{counted_other, kept_other, counted_new, kept_new, counted_old, kept_old}
+use Rattle.attr_survey.specs.declared.counts.Noted.{Noted}
+use Rattle.attr_survey.specs.Noted.{none_noted, blank, noted_at, noted_more, note_at}
+use Rattle.attr_survey.specs.Survey.{up_to_two, end_of, size_of, Counted}
+use Rattle.attr_survey.proofs.Notes.{more_first, more_again, note_same, note_other}
 
-pub record Number (w l : List Attribute) (k : ℕ) (count : List ℕ) : Type 0 where
-  pub number : up_to_two (count_of (kind_is k) w) ≡ up_to_two (get_or count k 0 + count_of (kind_is k) l)
-  pub low : get_or count k 0 ≤ 2
-
--- f tells the end of an attribute, or its length
-pub record First (f : Search → ℕ) (w l : List Attribute) (k : ℕ) (count kept : List ℕ) : Type 0 where
-  pub value : f (first_of (kind_is k) w) ≡ cond (eqb (get_or count k 0) 0) (f (first_of (kind_is k) l)) (get_or kept k 0)
-  pub empty : get_or count k 0 ≡ 0 → get_or kept k 0 ≡ 0
+pub record Noting (w l : List Attribute) (k : ℕ) (x : Noted) : Type 0 where
+  pub number : up_to_two (count_of (kind_is k) w) ≡ up_to_two (x.number + count_of (kind_is k) l)
+  pub low : x.number ≤ 2
+  pub end : end_of (first_of (kind_is k) w) ≡ cond (eqb x.number 0) (end_of (first_of (kind_is k) l)) x.end
+  pub size : size_of (first_of (kind_is k) w) ≡ cond (eqb x.number 0) (size_of (first_of (kind_is k) l)) x.size
+  pub no_end : x.number ≡ 0 → x.end ≡ 0
+  pub no_size : x.number ≡ 0 → x.size ≡ 0
 
 two : (n : ℕ) → 2 ≤ n → up_to_two n ≡ 2
 two zero h = absurd (omega arith)
@@ -40,80 +38,86 @@ low_two (suc (suc (suc n))) h = absurd (omega arith)
 
 -- ---- a turn that counts
 
-number_same : (w l : List Attribute) (a : Attribute) (count : List ℕ) → Number w (a ∷ l) a.kind count → a.kind < length count
-    → (z : Bool) → eqb (get_or count a.kind 0) 0 ≡ z → Number w l a.kind (counted_at count a.kind)
-number_same w l a count n h true e =
-    let c0 : get_or count a.kind 0 ≡ 0 = eqb-true _ _ e in
-    let cn : get_or (counted_at count a.kind) a.kind 0 ≡ 1 = counted_new count a.kind c0 h in
-    let q : count_of (kind_is a.kind) (a ∷ l) ≡ suc (count_of (kind_is a.kind) l) = rw (eq-eqb a.kind a.kind refl) in
-    let i : get_or count a.kind 0 + count_of (kind_is a.kind) (a ∷ l) ≡ get_or (counted_at count a.kind) a.kind 0 + count_of (kind_is a.kind) l = omega arith in
-    record { number = n.number ∙ ap up_to_two i; low = omega arith }
-number_same w l a count n h false e =
-    let c0 : get_or count a.kind 0 ≡ 0 → ⊥ = eqb-false _ _ e in
-    let cn : get_or (counted_at count a.kind) a.kind 0 ≡ 2 = counted_old count a.kind c0 h in
-    let q : count_of (kind_is a.kind) (a ∷ l) ≡ suc (count_of (kind_is a.kind) l) = rw (eq-eqb a.kind a.kind refl) in
-    let i : 2 ≤ get_or count a.kind 0 + count_of (kind_is a.kind) (a ∷ l) = omega arith in
-    let j : 2 ≤ get_or (counted_at count a.kind) a.kind 0 + count_of (kind_is a.kind) l = omega arith in
-    record { number = n.number ∙ two _ i ∙ sym (two _ j); low = omega arith }
+module _ (w l : List Attribute) (a : Attribute) where
+  one_more : count_of (kind_is a.kind) (a ∷ l) ≡ suc (count_of (kind_is a.kind) l)
+  one_more = rw (eq-eqb a.kind a.kind refl)
 
-number_case : (w l : List Attribute) (a : Attribute) (k : ℕ) (count : List ℕ) → Number w (a ∷ l) k count → a.kind < length count
-    → (b : Bool) → eqb a.kind k ≡ b → Number w l k (counted_at count a.kind)
-number_case w l a k count n h true e =
-    subst (λ (j : ℕ). Number w (a ∷ l) j count → Number w l j (counted_at count a.kind)) (eqb-true _ _ e) (λ n. number_same w l a count n h _ refl) n
-number_case w l a k count n h false e =
-    let o = counted_other count a.kind k (λ q. eqb-false _ _ e (sym q)) in
-    record { number = rw o (n.number ∙ rw e); low = rw o n.low }
+  same_case : (x : Noted) → Noting w (a ∷ l) a.kind x → (z : Bool) → eqb x.number 0 ≡ z → Noting w l a.kind (noted_more x (a.at + a.size) a.size)
+  same_case x n true e =
+      let z : x.number ≡ 0 = eqb-true _ _ e in
+      let q = one_more in
+      let i : x.number + count_of (kind_is a.kind) (a ∷ l) ≡ 1 + count_of (kind_is a.kind) l = omega arith in
+      rw (more_first x (a.at + a.size) a.size z)
+      record {
+        number = n.number ∙ ap up_to_two i;
+        low = omega arith;
+        end = n.end ∙ rw (e, eq-eqb a.kind a.kind refl);
+        size = n.size ∙ rw (e, eq-eqb a.kind a.kind refl);
+        no_end = λ i. absurd (omega arith);
+        no_size = λ i. absurd (omega arith);
+      }
+  same_case x n false e =
+      let z : x.number ≡ 0 → ⊥ = eqb-false _ _ e in
+      let q = one_more in
+      let i : 2 ≤ x.number + count_of (kind_is a.kind) (a ∷ l) = omega arith in
+      let j : 2 ≤ 2 + count_of (kind_is a.kind) l = omega arith in
+      rw (more_again x (a.at + a.size) a.size z)
+      record {
+        number = n.number ∙ two _ i ∙ sym (two _ j);
+        low = omega arith;
+        end = n.end ∙ rw e;
+        size = n.size ∙ rw e;
+        no_end = λ i. absurd (omega arith);
+        no_size = λ i. absurd (omega arith);
+      }
 
-pub number_turn : (w l : List Attribute) (a : Attribute) (k : ℕ) (count : List ℕ) → Number w (a ∷ l) k count → a.kind < length count → Number w l k (counted_at count a.kind)
-number_turn w l a k count n h = number_case w l a k count n h _ refl
+  pub other_case : (k : ℕ) (x : Noted) → Noting w (a ∷ l) k x → eqb a.kind k ≡ false → Noting w l k x
+  other_case k x n e =
+      record { number = n.number ∙ rw e; low = n.low; end = n.end ∙ rw e; size = n.size ∙ rw e; no_end = n.no_end; no_size = n.no_size }
 
-module _ (f : Search → ℕ) (w l : List Attribute) (a : Attribute) (v : ℕ) (vq : v ≡ f (At a)) (count kept : List ℕ) (h : a.kind < length count) (g : a.kind < length kept) where
-  first_same : First f w (a ∷ l) a.kind count kept → (z : Bool) → eqb (get_or count a.kind 0) 0 ≡ z
-      → First f w l a.kind (counted_at count a.kind) (kept_at count kept a.kind v)
-  first_same x true e =
-      let c0 : get_or count a.kind 0 ≡ 0 = eqb-true _ _ e in
-      let cn : get_or (counted_at count a.kind) a.kind 0 ≡ 1 = counted_new count a.kind c0 h in
-      let kn : get_or (kept_at count kept a.kind v) a.kind 0 ≡ v = kept_new count a.kind c0 kept v g in
-      record { value = x.value ∙ rw (e, eq-eqb a.kind a.kind refl, cn, kn) (sym vq); empty = λ i. absurd (omega arith) }
-  first_same x false e =
-      let c0 : get_or count a.kind 0 ≡ 0 → ⊥ = eqb-false _ _ e in
-      let cn : get_or (counted_at count a.kind) a.kind 0 ≡ 2 = counted_old count a.kind c0 h in
-      let ko : get_or (kept_at count kept a.kind v) a.kind 0 ≡ get_or kept a.kind 0 = kept_old count a.kind c0 kept v in
-      record { value = x.value ∙ rw (e, cn, ko); empty = λ i. absurd (omega arith) }
+  module _ (noted : List Noted) (h : a.kind < length noted) where
+    turn_case : (k : ℕ) → Noting w (a ∷ l) k (noted_at noted k) → (b : Bool) → eqb a.kind k ≡ b
+        → Noting w l k (noted_at (note_at noted a.kind (a.at + a.size) a.size) k)
+    turn_case k n true e =
+        let q : a.kind ≡ k = eqb-true _ _ e in
+        subst (λ (j : ℕ). Noting w (a ∷ l) j (noted_at noted j) → Noting w l j (noted_at (note_at noted a.kind (a.at + a.size) a.size) j)) q
+        (λ m. rw (note_same noted a.kind (a.at + a.size) a.size h) (same_case (noted_at noted a.kind) m _ refl)) n
+    turn_case k n false e =
+        rw (note_other noted a.kind (a.at + a.size) a.size k (λ q. eqb-false _ _ e (sym q))) (other_case k (noted_at noted k) n e)
 
-  first_case : (k : ℕ) → First f w (a ∷ l) k count kept → (b : Bool) → eqb a.kind k ≡ b → First f w l k (counted_at count a.kind) (kept_at count kept a.kind v)
-  first_case k x true e =
-      subst (λ (j : ℕ). First f w (a ∷ l) j count kept → First f w l j (counted_at count a.kind) (kept_at count kept a.kind v)) (eqb-true _ _ e) (λ x. first_same x _ refl) x
-  first_case k x false e =
-      let ne : k ≡ a.kind → ⊥ = λ q. eqb-false _ _ e (sym q) in
-      let o = counted_other count a.kind k ne in
-      let p = kept_other count kept a.kind v k ne in
-      record { value = rw (o, p) (x.value ∙ rw e); empty = rw (o, p) x.empty }
-
-  pub first_turn : (k : ℕ) → First f w (a ∷ l) k count kept → First f w l k (counted_at count a.kind) (kept_at count kept a.kind v)
-  first_turn k x = first_case k x _ refl
+    pub noted_turn : (k : ℕ) → Noting w (a ∷ l) k (noted_at noted k) → Noting w l k (noted_at (note_at noted a.kind (a.at + a.size) a.size) k)
+    noted_turn k n = turn_case k n _ refl
 
 -- ---- before the first attribute, and after the last
 
-pub zero_at : (k n : ℕ) → get_or (replicate {A = ℕ} n 0) k 0 ≡ 0
-zero_at k zero = refl
-zero_at zero (suc n) = refl
-zero_at (suc k) (suc n) = zero_at k n
+none_at : (k n : ℕ) → get_or (replicate n none_noted) k none_noted ≡ none_noted
+none_at k zero = refl
+none_at zero (suc n) = refl
+none_at (suc k) (suc n) = none_at k n
 
-pub number_start : (w : List Attribute) (k : ℕ) → Number w w k zeros
-unfolding zeros
-number_start w k = record { number = rw (zero_at k 256) (ap up_to_two (sym (zero-add (count_of (kind_is k) w)))); low = rw (zero_at k 256) (omega arith) }
+pub blank_at : (k : ℕ) → noted_at blank k ≡ none_noted
+unfolding blank
+blank_at k = none_at k 256
 
-pub first_start : (f : Search → ℕ) (w : List Attribute) (k : ℕ) → First f w w k zeros zeros
-unfolding zeros
-first_start f w k = record { value = rw (zero_at k 256); empty = λ e. zero_at k 256 }
+pub noted_start : (w : List Attribute) (k : ℕ) → Noting w w k none_noted
+noted_start w k =
+    record {
+      number = ap up_to_two (sym (zero-add (count_of (kind_is k) w)));
+      low = omega arith;
+      end = refl;
+      size = refl;
+      no_end = λ e. refl;
+      no_size = λ e. refl;
+    }
 
-pub number_end : (w : List Attribute) (k : ℕ) (count : List ℕ) → Number w [] k count → get_or count k 0 ≡ up_to_two (count_of (kind_is k) w)
-number_end w k count n = let z : get_or count k 0 + 0 ≡ get_or count k 0 = add-zero _ in sym (n.number ∙ ap up_to_two z ∙ low_two _ n.low)
+end_case : (w : List Attribute) (k : ℕ) (x : Noted) → Noting w [] k x → (z : Bool) → eqb x.number 0 ≡ z → Counted w k x
+end_case w k x n true e =
+    let z : x.number ≡ 0 = eqb-true _ _ e in
+    let s : x.number + 0 ≡ x.number = add-zero _ in
+    record { number = sym (n.number ∙ ap up_to_two s ∙ low_two _ n.low); end = n.no_end z ∙ sym (n.end ∙ rw e); size = n.no_size z ∙ sym (n.size ∙ rw e) }
+end_case w k x n false e =
+    let s : x.number + 0 ≡ x.number = add-zero _ in
+    record { number = sym (n.number ∙ ap up_to_two s ∙ low_two _ n.low); end = sym (n.end ∙ rw e); size = sym (n.size ∙ rw e) }
 
-end_case : (f : Search → ℕ) (w : List Attribute) (k : ℕ) (count kept : List ℕ) → f Missing ≡ 0 → First f w [] k count kept → (z : Bool) → eqb (get_or count k 0) 0 ≡ z → get_or kept k 0 ≡ f (first_of (kind_is k) w)
-end_case f w k count kept m x true e = x.empty (eqb-true _ _ e) ∙ sym (x.value ∙ rw e m)
-end_case f w k count kept m x false e = sym (x.value ∙ rw e)
-
-pub first_end : (f : Search → ℕ) (w : List Attribute) (k : ℕ) (count kept : List ℕ) → f Missing ≡ 0 → First f w [] k count kept → get_or kept k 0 ≡ f (first_of (kind_is k) w)
-first_end f w k count kept m x = end_case f w k count kept m x _ refl
+pub noted_end : (w : List Attribute) (k : ℕ) (x : Noted) → Noting w [] k x → Counted w k x
+noted_end w k x n = end_case w k x n _ refl

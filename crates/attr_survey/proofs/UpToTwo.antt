@@ -6,9 +6,8 @@ use mathlib.Core.List.{List}
 use Prim.Native.Nat.{ℕ, zero, suc, ◌≤◌, ◌<◌}
 use native.Mathlib.Omega.{arith}
 use lib.ListN.{length}
+use Rattle.std.specs.Prelude.{Option, Some, None}
 use Rattle.attr_walk.specs.declared.Attribute.{Attribute}
-use Rattle.attr_walk.specs.declared.Search.{Search}
-use Rattle.attr_walk.specs.declared.Search.TheVariants.{At, Missing}
 use Rattle.attr_walk.specs.Attributes.{attributes, first_of}
 use Rattle.attr_walk.proofs.Stands.{first_placed}
 use Rattle.attr_survey.specs.Survey.{up_to_two, end_of, size_of}
@@ -28,10 +27,10 @@ two_more zero h g = absurd (h refl)
 two_more (suc zero) h g = absurd (g refl)
 two_more (suc (suc n)) h g = omega arith
 
-pub size_low : (x : Search) → size_of x ≤ end_of x
-size_low (At a) = omega arith
-size_low Missing = omega arith
+pub size_low : (x : Option Attribute) → size_of x ≤ end_of x
+size_low (Some a) = omega arith
+size_low None = omega arith
 
-pub end_inside : (p : Attribute → Bool) (s : List ℕ) (x : Search) → x ≡ first_of p (attributes s) → end_of x ≤ length s
-end_inside p s (At a) q = let g = first_placed p s (At a) a q refl in g.inside
-end_inside p s Missing q = omega arith
+pub end_inside : (p : Attribute → Bool) (s : List ℕ) (x : Option Attribute) → x ≡ first_of p (attributes s) → end_of x ≤ length s
+end_inside p s (Some a) q = let g = first_placed p s (Some a) a q refl in g.inside
+end_inside p s None q = omega arith

@@ -8,10 +8,8 @@ use Prim.Native.Nat.{ℕ}
 use native.Mathlib.Omega.{arith}
 use borrow.Author.Tests.{eq-eqb, ne_eqb}
 use lib.Dec.{lit<}
-use lib.ListN.{get_or}
+use Rattle.std.specs.Prelude.{Option, Some}
 use Rattle.attr_walk.specs.declared.Attribute.{Attribute}
-use Rattle.attr_walk.specs.declared.Search.{Search}
-use Rattle.attr_walk.specs.declared.Search.TheVariants.{At}
 use Rattle.attr_walk.specs.declared.Step.{Step}
 use Rattle.attr_walk.specs.declared.Step.TheVariants.{Found, End, Bad}
 use Rattle.attr_walk.specs.Attributes.{step_at, attributes, attributes_from, value_of, any, found, first_of, kind_is}
@@ -20,6 +18,8 @@ use Rattle.attr_walk.proofs.Searches.{any_or, none_both}
 use Rattle.attr_vendor.specs.declared.Vendor.{Vendor}
 use Rattle.attr_vendor.specs.Vendor.{vendor_of, vendor_in, is_other, is_faulty, sets_rate, other_vendor, faulty_vendor, sets_rate_in}
 use Rattle.attr_types.specs.Types.{unsupported_type, misfitting, among, changing_types}
+use Rattle.attr_survey.specs.declared.counts.Noted.{Noted}
+use Rattle.attr_survey.specs.Noted.{noted_at}
 use Rattle.attr_survey.specs.declared.Flags.{Flags}
 use Rattle.attr_survey.specs.Survey.{Kept, Typed, Flagged}
 use Rattle.attr_survey.specs.Vendors.{vendor_joined, vendor_turned, vendors_joined}
@@ -40,7 +40,7 @@ module _ (f : Flags) (s : List ℕ) (a : Attribute) where
 
 -- ---- all of them, from the first on
 
-found-cond : (b : Bool) (a : Attribute) (x : Search) → found (cond b (At a) x) ≡ (b || found x)
+found-cond : (b : Bool) (a : Attribute) (x : Option Attribute) → found (cond b (Some a) x) ≡ (b || found x)
 found-cond true a x = refl
 found-cond false a x = refl
 
@@ -87,8 +87,8 @@ module _ (s : List ℕ) (code : ℕ) (f : Flags) (t : Typed s code f) where
         change = rw t.change (sym (any_or (among changing_types) (sets_rate_in s) (attributes s)));
       }
 
-  pub flagged_none : (count ends sizes : List ℕ) → Kept s count ends sizes → get_or count 26 0 ≡ 0 → Flagged s code f
-  flagged_none count ends sizes kept z =
+  pub flagged_none : (noted : List Noted) → Kept s noted → (noted_at noted 26).number ≡ 0 → Flagged s code f
+  flagged_none noted kept z =
       flagged_vendors f (sym (rw (says (λ a. is_other (vendor_in s a)), says (λ a. is_faulty (vendor_in s a)), says (λ a. sets_rate (vendor_in s a)), or-false, or-false, or-false)))
     where
       says : (p : Attribute → Bool) → any (λ a. kind_is 26 a && p a) (attributes s) ≡ false

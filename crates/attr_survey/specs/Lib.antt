@@ -1,3 +1,4 @@
+pub mod Noted
 pub mod Survey
 pub mod Turns
 pub mod Vendors

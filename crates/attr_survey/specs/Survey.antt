@@ -1,17 +1,13 @@
 -- What one pass over the attributes of an area tells: flags for the rules, and for each type how many there are (2 for any more) and where the first one ends.
 -- For inner contracts and proofs: what flags and counts stand for is said in attr_types/specs/Types.antt and attr_walk/specs/Attributes.antt.
 -- Assumes nothing.
-use Rattle.std.specs.Prelude.{Bool, not, List, ◌≡◌, ℕ, zero, suc, ◌+◌, ◌<◌, eqb, get_or, replicate}
+use Rattle.std.specs.Prelude.{List, ◌≡◌, ℕ, zero, suc, ◌+◌, ◌<◌, Option, Some, None}
 use Rattle.attr_walk.specs.declared.Attribute.{Attribute}
-use Rattle.attr_walk.specs.declared.Search.{Search}
-use Rattle.attr_walk.specs.declared.Search.TheVariants.{At, Missing}
 use Rattle.attr_walk.specs.Attributes.{attributes, tiled, any, found, first_of, count_of, kind_is}
+use Rattle.attr_survey.specs.declared.counts.Noted.{Noted}
 use Rattle.attr_survey.specs.declared.Flags as D
+use Rattle.attr_survey.specs.Noted.{noted_at}
 use Rattle.attr_types.specs.Types.{unsupported_type, unsupported_in, misfitting, malformed, among, naming_types, changing_types, changing, first_repeated, none}
-
--- nothing noted yet
-unfoldable pub zeros : List ℕ
-zeros = replicate 256 0
 
 -- a count, 2 for any more
 abbrev pub up_to_two : ℕ → ℕ
@@ -19,28 +15,24 @@ up_to_two zero = 0
 up_to_two (suc zero) = 1
 up_to_two (suc (suc n)) = 2
 
--- a type was counted
-abbrev pub seen_at : List ℕ → ℕ → Bool
-seen_at count k = not (eqb (get_or count k 0) 0)
-
 -- where a found attribute ends, and its length
-abbrev pub end_of : Search → ℕ
-end_of (At a) = a.at + a.size
-end_of Missing = 0
+abbrev pub end_of : Option Attribute → ℕ
+end_of (Some a) = a.at + a.size
+end_of None = 0
 
-abbrev pub size_of : Search → ℕ
-size_of (At a) = a.size
-size_of Missing = 0
+abbrev pub size_of : Option Attribute → ℕ
+size_of (Some a) = a.size
+size_of None = 0
 
 -- what is kept of type k: how many there are, 2 for any more, and where the first one ends
-pub record Counted (l : List Attribute) (k : ℕ) (count ends sizes : List ℕ) : Type 0 where
-  pub number : get_or count k 0 ≡ up_to_two (count_of (kind_is k) l)
-  pub end : get_or ends k 0 ≡ end_of (first_of (kind_is k) l)
-  pub size : get_or sizes k 0 ≡ size_of (first_of (kind_is k) l)
+pub record Counted (l : List Attribute) (k : ℕ) (x : Noted) : Type 0 where
+  pub number : x.number ≡ up_to_two (count_of (kind_is k) l)
+  pub end : x.end ≡ end_of (first_of (kind_is k) l)
+  pub size : x.size ≡ size_of (first_of (kind_is k) l)
 
 -- what a pass over the area s kept of each type but 33, which may repeat and is not counted
-pub record Kept (s : List ℕ) (count ends sizes : List ℕ) : Type 0 where
-  pub types : (k : ℕ) → k < 256 → (k ≡ 33 → ⊥) → Counted (attributes s) k count ends sizes
+pub record Kept (s : List ℕ) (noted : List Noted) : Type 0 where
+  pub types : (k : ℕ) → k < 256 → (k ≡ 33 → ⊥) → Counted (attributes s) k (noted_at noted k)
 
 -- the flags of a pass over the area s of a request of this code, by the types and lengths of its attributes alone
 pub record Typed (s : List ℕ) (code : ℕ) (r : D.Flags) : Type 0 where

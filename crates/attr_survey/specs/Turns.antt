@@ -1,7 +1,7 @@
--- What one attribute of a known class adds to a pass: to the flags, and to what is kept of its type.
+-- What one attribute of a known class adds to the flags of a pass.
 -- For inner contracts and proofs: what the flags stand for is said in attr_types/specs/Types.antt, the classes are in attr_types/specs/Classes.antt.
 -- Assumes nothing.
-use Rattle.std.specs.Prelude.{Bool, true, false, cond, not, ◌&&◌, ◌||◌, List, ℕ, eqb, get_or, set}
+use Rattle.std.specs.Prelude.{Bool, true, false, ◌||◌, ℕ}
 use Rattle.attr_survey.specs.declared.Flags as D
 use Rattle.attr_types.specs.Classes.{says, lacking, misfit_by}
 
@@ -25,11 +25,3 @@ joined_by code class size again f =
 -- where no attribute stands before the area's end: the attributes do not fill it
 abbrev pub untiled : D.Flags → D.Flags
 untiled f = record { tiled = false; unsupported = f.unsupported; service = f.service; repeated = f.repeated; misfit = f.misfit; criterion = f.criterion; change = f.change }
-
--- one more of type k: 1, then 2 for any more
-unfoldable pub counted_at : List ℕ → ℕ → List ℕ
-counted_at count k = cond (eqb (get_or count k 0) 0) (set count k 1) (set count k 2)
-
--- what is kept of the first of type k
-unfoldable pub kept_at : List ℕ → List ℕ → ℕ → ℕ → List ℕ
-kept_at count kept k v = cond (eqb (get_or count k 0) 0) (set kept k v) kept

@@ -1,29 +1,41 @@
 // What is kept of each type: how many there are, and where the first one ends.
 ghost use Rattle.std.specs.Prelude.{◌≡◌};
-ghost use Rattle.attr_survey.specs.Survey.{seen_at};
-ghost use Rattle.attr_survey.specs.Turns.{counted_at, kept_at};
+ghost use Rattle.attr_survey.specs.Noted.{noted_at, seen_at, note_at};
+
+// What a pass keeps of the attributes of a type: how many there are, 2 for any more, and end and length of the first.
+#[derive(Clone, Copy, Debug, PartialEq, Eq)]
+pub struct Noted {
+    pub number: u8,
+    pub end: u16,
+    pub size: u8,
+}
+
+// Before the first attribute.
+pub const NONE: Noted = Noted {
+    number: 0,
+    end: 0,
+    size: 0,
+};
 
 // Counts an attribute, and keeps end and length of the first of its type. Says whether one of its type was counted before.
-pub fn note(
-    count: &mut [u8; 256],
-    ends: &mut [u16; 256],
-    sizes: &mut [u8; 256],
-    kind: u8,
-    end: u16,
-    size: u8,
-) -> bool
-    ensures value { result ≡ seen_at count.old kind }
-    ensures count_after { count.new ≡ counted_at count.old kind }
-    ensures ends_after { ends.new ≡ kept_at count.old ends.old kind end }
-    ensures sizes_after { sizes.new ≡ kept_at count.old sizes.old kind size }
+pub fn note(noted: &mut [Noted; 256], kind: u8, end: u16, size: u8) -> bool
+    ensures value { result ≡ seen_at noted.old kind }
+    ensures noted_after { noted.new ≡ note_at noted.old kind end size }
 {
-    let k = kind as usize;
-    if count[k] == 0 {
-        count[k] = 1;
-        ends[k] = end;
-        sizes[k] = size;
+    let k = usize::from(kind);
+    let before = noted[k];
+    if before.number == 0 {
+        noted[k] = Noted {
+            number: 1,
+            end,
+            size,
+        };
         return false;
     }
-    count[k] = 2;
+    noted[k] = Noted {
+        number: 2,
+        end: before.end,
+        size: before.size,
+    };
     true
 }

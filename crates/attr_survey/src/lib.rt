@@ -2,10 +2,12 @@
 #![tactic(auto)]
 
 ghost use Rattle.std.specs.Prelude.{◌≡◌, ◌≤◌, length};
-ghost use Rattle.attr_survey.specs.Survey.{zeros, Typed, Flagged, Kept};
+ghost use Rattle.attr_survey.specs.Survey.{Typed, Flagged, Kept};
+ghost use Rattle.attr_survey.specs.Noted.{blank};
 
 use attr_types::VENDOR_SPECIFIC;
 use counts::note;
+pub use counts::{NONE, Noted};
 use turns::{joined, no_flags, untiled};
 
 mod counts; // counts.rt: what is kept of each type
@@ -31,18 +33,22 @@ pub struct Flags {
     pub change: bool,
 }
 
-// Surveys the area of a request of this code by types and lengths. For each type but 33 it counts the attributes (2 for any
-// more) and keeps end and length of the first, in three arrays of zeros that the caller lends.
-fn by_type(
-    s: &[u8],
-    code: u8,
-    count: &mut [u8; 256],
-    ends: &mut [u16; 256],
-    sizes: &mut [u8; 256],
-) -> Flags
-    requires { (length s.now ≤ 4096) × (count.old ≡ zeros) × (ends.old ≡ zeros) × (sizes.old ≡ zeros) }
+// What one pass told of the attributes of an area, in a request of this code.
+pub struct Survey<'a> {
+    pub area: &'a [u8],
+    pub code: u8,
+    pub flags: Flags,
+    // For each type but 33, which may repeat.
+    pub noted: [Noted; 256],
+    pub ghost flagged: { Flagged area.now code flags },
+    pub ghost kept: { Kept area.now noted },
+}
+
+// Surveys the area of a request of this code by types and lengths.
+fn by_type(s: &[u8], code: u8, noted: &mut [Noted; 256]) -> Flags
+    requires { (length s.now ≤ 4096) × (noted.old ≡ blank) }
     ensures typed { Typed s.now code result }
-    ensures kept { Kept s.now count.new ends.new sizes.new }
+    ensures kept { Kept s.now noted.new }
 {
     let table = attr_types::table();
     let mut f = no_flags();
@@ -63,7 +69,7 @@ fn by_type(
                     }
                     continue;
                 }
-                let again = note(count, ends, sizes, kind, end, size);
+                let again = note(noted, kind, end, size);
                 f = joined(f, code, class, size, again);
             }
             attr_walk::Step::End => return f,
@@ -72,21 +78,34 @@ fn by_type(
     }
 }
 
-// The same, with what its Vendor-Specific attributes say. They are read in a walk of their own, so that a request without one pays nothing for them.
-pub fn survey(
-    s: &[u8],
-    code: u8,
-    count: &mut [u8; 256],
-    ends: &mut [u16; 256],
-    sizes: &mut [u8; 256],
-) -> Flags
-    requires { (length s.now ≤ 4096) × (count.old ≡ zeros) × (ends.old ≡ zeros) × (sizes.old ≡ zeros) }
+// The flags of the pass, with what the Vendor-Specific attributes say. They are read in a walk of their own, so that a request without one pays nothing for them.
+fn with_vendors(s: &[u8], code: u8, noted: &mut [Noted; 256]) -> Flags
+    requires { (length s.now ≤ 4096) × (noted.old ≡ blank) }
     ensures flagged { Flagged s.now code result }
-    ensures kept { Kept s.now count.new ends.new sizes.new }
+    ensures kept { Kept s.now noted.new }
 {
-    let f = by_type(s, code, &mut *count, ends, sizes);
-    if count[VENDOR_SPECIFIC as usize] == 0 {
+    let f = by_type(s, code, &mut *noted);
+    if noted[VENDOR_SPECIFIC as usize].number == 0 {
         return f;
     }
     vendors::joined(f, s)
+}
+
+impl<'a> Survey<'a> {
+    // One pass over the area of a request of this code.
+    #[tactic(auto, unfolding(crate::specs::Noted::blank))]
+    pub fn of(area: &'a [u8], code: u8) -> Survey<'a>
+        requires { length area.now ≤ 4096 }
+        ensures area_value { result.area.now ≡ area.now }
+        ensures code_value { result.code ≡ code }
+    {
+        let mut noted = [NONE; 256];
+        let flags = with_vendors(area, code, &mut noted);
+        Survey {
+            area,
+            code,
+            flags,
+            noted,
+        }
+    }
 }

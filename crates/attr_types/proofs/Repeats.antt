@@ -8,9 +8,8 @@ use Prim.Native.Nat.{ℕ, suc, ◌≤◌}
 use native.Mathlib.Omega.{arith}
 use lib.Dec.{eqb}
 use borrow.Author.Tests.{eq-eqb, ne_eqb, eqb-true, eqb-false}
+use Rattle.std.specs.Prelude.{Option, Some}
 use Rattle.attr_walk.specs.declared.Attribute.{Attribute}
-use Rattle.attr_walk.specs.declared.Search.{Search}
-use Rattle.attr_walk.specs.declared.Search.TheVariants.{At}
 use Rattle.attr_walk.specs.Attributes.{found, count_of, kind_is}
 use Rattle.attr_types.specs.Types.{first_repeated, also, none}
 
@@ -21,8 +20,8 @@ same_test f g k false e h = h k (eqb-false _ _ e)
 pub same_seen : (f g : ℕ → Bool) (l : List Attribute) → ((k : ℕ) → (k ≡ 33 → ⊥) → f k ≡ g k) → first_repeated f l ≡ first_repeated g l
 same_seen f g [] h = refl
 same_seen f g (a ∷ l) h =
-    ap (λ (b : Bool). cond b (At a) (first_repeated (also a.kind f) l)) (same_test f g a.kind _ refl h)
-    ∙ ap (λ (x : Search). cond (not (eqb a.kind 33) && g a.kind) (At a) x) (same_seen (also a.kind f) (also a.kind g) l (λ k p. ap (λ (b : Bool). eqb k a.kind || b) (h k p)))
+    ap (λ (b : Bool). cond b (Some a) (first_repeated (also a.kind f) l)) (same_test f g a.kind _ refl h)
+    ∙ ap (λ (x : Option Attribute). cond (not (eqb a.kind 33) && g a.kind) (Some a) x) (same_seen (also a.kind f) (also a.kind g) l (λ k p. ap (λ (b : Bool). eqb k a.kind || b) (h k p)))
 
 pub also_33 : (seen : ℕ → Bool) (j k : ℕ) → j ≡ 33 → (k ≡ 33 → ⊥) → also j seen k ≡ seen k
 also_33 seen j k e h = rw (ne_eqb k j (λ q. h (q ∙ e)))
@@ -33,7 +32,7 @@ record Once (k : ℕ) (seen : ℕ → Bool) (l : List Attribute) : Type 0 where
   low : count_of (kind_is k) l ≤ 1
   gone : seen k ≡ true → count_of (kind_is k) l ≡ 0
 
-rest : (a : Attribute) (l : List Attribute) (seen : ℕ → Bool) (b : Bool) → (not (eqb a.kind 33) && seen a.kind) ≡ b → found (cond b (At a) (first_repeated (also a.kind seen) l)) ≡ false
+rest : (a : Attribute) (l : List Attribute) (seen : ℕ → Bool) (b : Bool) → (not (eqb a.kind 33) && seen a.kind) ≡ b → found (cond b (Some a) (first_repeated (also a.kind seen) l)) ≡ false
     → found (first_repeated (also a.kind seen) l) ≡ false
 rest a l seen true e h = absurd (true≢false h)
 rest a l seen false e h = h

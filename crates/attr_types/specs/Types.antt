@@ -1,11 +1,9 @@
 -- What document 01 says of attribute types ("NAK causes"), as lists, and the rules that one attribute can break.
 -- Assumes nothing.
-use Rattle.std.specs.Prelude.{Bool, false, cond, not, ◌&&◌, ◌||◌, List, [], ◌∷◌, ℕ, eqb}
+use Rattle.std.specs.Prelude.{Bool, false, cond, not, ◌&&◌, ◌||◌, List, [], ◌∷◌, ℕ, eqb, Option, Some, None}
 use Rattle.octet_numbers.specs.Runs.{member}
 use Rattle.attr_walk.specs.declared.Attribute.{Attribute}
 use Rattle.attr_vendor.specs.Vendor.{other_vendor, faulty_vendor, sets_rate_in}
-use Rattle.attr_walk.specs.declared.Search.{Search}
-use Rattle.attr_walk.specs.declared.Search.TheVariants.{At, Missing}
 
 -- the types that a CoA-Request supports, with 26 of document 02, request 01; a Disconnect-Request supports the same less 11, 26, 27, 28
 abbrev pub coa_types : List ℕ
@@ -64,6 +62,6 @@ also k seen j = eqb j k || seen j
 abbrev pub none : ℕ → Bool
 none k = false
 
-abbrev pub first_repeated : (ℕ → Bool) → List Attribute → Search
-first_repeated seen [] = Missing
-first_repeated seen (a ∷ rest) = cond (not (eqb a.kind 33) && seen a.kind) (At a) (first_repeated (also a.kind seen) rest)
+abbrev pub first_repeated : (ℕ → Bool) → List Attribute → Option Attribute
+first_repeated seen [] = None
+first_repeated seen (a ∷ rest) = cond (not (eqb a.kind 33) && seen a.kind) (Some a) (first_repeated (also a.kind seen) rest)

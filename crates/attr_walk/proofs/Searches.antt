@@ -9,13 +9,12 @@ use native.Mathlib.Omega.{arith}
 use lib.Dec.{leb}
 use borrow.Author.Tests.{leb-false, le-leb, lt-leb}
 use Rattle.attr_walk.specs.declared.Attribute.{Attribute}
-use Rattle.attr_walk.specs.declared.Search.{Search}
-use Rattle.attr_walk.specs.declared.Search.TheVariants.{At}
+use Rattle.std.specs.Prelude.{Option, Some}
 use Rattle.attr_walk.specs.Attributes.{first_of, found, any, count_of, on_first}
 
 -- ---- one passes exactly where the count is not 0
 
-counted : (b : Bool) (a : Attribute) (x : Search) (n : ℕ) → found x ≡ leb 1 n → found (cond b (At a) x) ≡ leb 1 (cond b (suc n) n)
+counted : (b : Bool) (a : Attribute) (x : Option Attribute) (n : ℕ) → found x ≡ leb 1 n → found (cond b (Some a) x) ≡ leb 1 (cond b (suc n) n)
 counted true a x n e = sym (le-leb 1 (suc n) (omega arith))
 counted false a x n e = e
 
@@ -34,17 +33,17 @@ none_any p l h = any_count p l ∙ lt-leb 1 (count_of p l) (omega arith)
 
 -- ---- the first
 
-passes : (p : Attribute → Bool) (b a : Attribute) (x : Search) (t : Bool) → p b ≡ t → (x ≡ At a → p a ≡ true) → cond t (At b) x ≡ At a → p a ≡ true
+passes : (p : Attribute → Bool) (b a : Attribute) (x : Option Attribute) (t : Bool) → p b ≡ t → (x ≡ Some a → p a ≡ true) → cond t (Some b) x ≡ Some a → p a ≡ true
 passes p b a x true q ih e = let i : b ≡ a = cc in ap p (sym i) ∙ q
 passes p b a x false q ih e = ih e
 
-pub first_passes : (p : Attribute → Bool) (l : List Attribute) (a : Attribute) → first_of p l ≡ At a → p a ≡ true
+pub first_passes : (p : Attribute → Bool) (l : List Attribute) (a : Attribute) → first_of p l ≡ Some a → p a ≡ true
 first_passes p [] a e = let o : ◌≡◌ {A = ℕ} 0 1 = cc in absurd (omega arith)
 first_passes p (b ∷ l) a e = passes p b a (first_of p l) (p b) refl (first_passes p l a) e
 
 -- ---- at most one passes p: what holds of one holds of the first
 
-none_case : (b c : Bool) (a : Attribute) (x : Search) (n : ℕ) → cond b (suc n) n ≡ 0 → (n ≡ 0 → found x ≡ false) → found (cond (b && c) (At a) x) ≡ false
+none_case : (b c : Bool) (a : Attribute) (x : Option Attribute) (n : ℕ) → cond b (suc n) n ≡ 0 → (n ≡ 0 → found x ≡ false) → found (cond (b && c) (Some a) x) ≡ false
 none_case true c a x n h ih = absurd (omega arith)
 none_case false c a x n h ih = ih h
 
@@ -52,12 +51,12 @@ pub none_both : (p q : Attribute → Bool) (l : List Attribute) → count_of p l
 none_both p q [] h = refl
 none_both p q (a ∷ l) h = none_case (p a) (q a) a (first_of (λ b. p b && q b) l) (count_of p l) h (none_both p q l)
 
-found_none : (c : Bool) (a : Attribute) (x : Search) → found x ≡ false → found (cond c (At a) x) ≡ c
+found_none : (c : Bool) (a : Attribute) (x : Option Attribute) → found x ≡ false → found (cond c (Some a) x) ≡ c
 found_none true a x h = refl
 found_none false a x h = h
 
-only_case : (q : Attribute → Bool) (b : Bool) (a : Attribute) (x y : Search) (n : ℕ) → cond b (suc n) n ≤ 1 → (n ≡ 0 → found x ≡ false) → (n ≤ 1 → found x ≡ on_first q y)
-    → found (cond (b && q a) (At a) x) ≡ on_first q (cond b (At a) y)
+only_case : (q : Attribute → Bool) (b : Bool) (a : Attribute) (x y : Option Attribute) (n : ℕ) → cond b (suc n) n ≤ 1 → (n ≡ 0 → found x ≡ false) → (n ≤ 1 → found x ≡ on_first q y)
+    → found (cond (b && q a) (Some a) x) ≡ on_first q (cond b (Some a) y)
 only_case q true a x y n h z ih = found_none (q a) a x (z (omega arith))
 only_case q false a x y n h z ih = ih h
 
@@ -67,7 +66,7 @@ only p q (a ∷ l) h = only_case q (p a) a (first_of (λ b. p b && q b) l) (firs
 
 -- ---- one test or the other, and two lists
 
-or_case : (b c : Bool) (a : Attribute) (x y z : Search) → found x ≡ (found y || found z) → found (cond (b || c) (At a) x) ≡ (found (cond b (At a) y) || found (cond c (At a) z))
+or_case : (b c : Bool) (a : Attribute) (x y z : Option Attribute) → found x ≡ (found y || found z) → found (cond (b || c) (Some a) x) ≡ (found (cond b (Some a) y) || found (cond c (Some a) z))
 or_case true c a x y z e = refl
 or_case false false a x y z e = e
 or_case false true a x y z e = sym (or-true (found y))
@@ -76,7 +75,7 @@ pub any_or : (p q : Attribute → Bool) (l : List Attribute) → any (λ a. p a 
 any_or p q [] = refl
 any_or p q (a ∷ l) = or_case (p a) (q a) a (first_of (λ b. p b || q b) l) (first_of p l) (first_of q l) (any_or p q l)
 
-any_case : (b : Bool) (a : Attribute) (x y : Search) (t : Bool) → found x ≡ (found y || t) → found (cond b (At a) x) ≡ (found (cond b (At a) y) || t)
+any_case : (b : Bool) (a : Attribute) (x y : Option Attribute) (t : Bool) → found x ≡ (found y || t) → found (cond b (Some a) x) ≡ (found (cond b (Some a) y) || t)
 any_case true a x y t e = refl
 any_case false a x y t e = e
 
@@ -96,7 +95,7 @@ pub first_after : (p : Attribute → Bool) (l m : List Attribute) → any p l �
 first_after p [] m h = refl
 first_after p (b ∷ l) m h = by_head (p b) (first_after p l m) h
   where
-    by_head : (t : Bool) → (any p l ≡ false → first_of p (l ++ m) ≡ first_of p m) → found (cond t (At b) (first_of p l)) ≡ false → cond t (At b) (first_of p (l ++ m)) ≡ first_of p m
+    by_head : (t : Bool) → (any p l ≡ false → first_of p (l ++ m) ≡ first_of p m) → found (cond t (Some b) (first_of p l)) ≡ false → cond t (Some b) (first_of p (l ++ m)) ≡ first_of p m
     by_head true ih h = absurd (false≢true (sym h))
     by_head false ih h = ih h
 

@@ -9,8 +9,7 @@ use Prim.Native.Nat.{ℕ, zero, suc, ◌+◌, ◌-◌}
 use native.Mathlib.Omega.{arith}
 use lib.ListN.{length}
 use Rattle.attr_walk.specs.declared.Attribute.{Attribute}
-use Rattle.attr_walk.specs.declared.Search.{Search}
-use Rattle.attr_walk.specs.declared.Search.TheVariants.{At}
+use Rattle.std.specs.Prelude.{Option, Some}
 use Rattle.attr_walk.specs.declared.Step.{Step}
 use Rattle.attr_walk.specs.declared.Step.TheVariants.{Found, End, Bad}
 use Rattle.attr_walk.specs.Attributes.{step_at, on_step, walk, walk_from, attributes, attributes_from, first_of, value_of, value_at}
@@ -50,19 +49,19 @@ unfolding walk_from
 member_stands s at a m = there s (length s - at) at a m
 
 -- the first that passes a test is one of them
-first_case : (p : Attribute → Bool) (b a : Attribute) (l : List Attribute) (t : Bool) → (first_of p l ≡ At a → Memᴰ a l) → cond t (At b) (first_of p l) ≡ At a → Memᴰ a (b ∷ l)
+first_case : (p : Attribute → Bool) (b a : Attribute) (l : List Attribute) (t : Bool) → (first_of p l ≡ Some a → Memᴰ a l) → cond t (Some b) (first_of p l) ≡ Some a → Memᴰ a (b ∷ l)
 first_case p b a l true ih e = let i : a ≡ b = cc in Memᴰ.head i
 first_case p b a l false ih e = Memᴰ.tail (ih e)
 
-pub first_member : (p : Attribute → Bool) (l : List Attribute) (a : Attribute) → first_of p l ≡ At a → Memᴰ a l
+pub first_member : (p : Attribute → Bool) (l : List Attribute) (a : Attribute) → first_of p l ≡ Some a → Memᴰ a l
 first_member p [] a e = let o : ◌≡◌ {A = ℕ} 0 1 = cc in absurd (omega arith)
 first_member p (b ∷ l) a e = first_case p b a l (p b) (first_member p l a) e
 
-pub first_stands : (p : Attribute → Bool) (s : List ℕ) (a : Attribute) → first_of p (attributes s) ≡ At a → step_at s a.at ≡ Found a (a.at + a.size)
+pub first_stands : (p : Attribute → Bool) (s : List ℕ) (a : Attribute) → first_of p (attributes s) ≡ Some a → step_at s a.at ≡ Found a (a.at + a.size)
 first_stands p s a e = member_stands s 0 a (first_member p (attributes s) a e)
 
 -- where it stands, of the answer z of a search
-pub first_placed : (p : Attribute → Bool) (s : List ℕ) (z : Search) (a : Attribute) → z ≡ first_of p (attributes s) → z ≡ At a → Placed s a.at a (a.at + a.size)
+pub first_placed : (p : Attribute → Bool) (s : List ℕ) (z : Option Attribute) (a : Attribute) → z ≡ first_of p (attributes s) → z ≡ Some a → Placed s a.at a (a.at + a.size)
 first_placed p s z a q r = step_inv s a.at a (a.at + a.size) (first_stands p s a (sym q ∙ r))
 
 -- its value is the one at its place

@@ -5,8 +5,8 @@ use mathlib.Core.Bool.{Bool, true, false, cond, ◌&&◌}
 use mathlib.Core.List.{List}
 use Prim.Native.Nat.{ℕ, ◌+◌, ◌-◌, ◌≤◌, ◌<◌}
 use native.Mathlib.Omega.{arith}
-use lib.ListN.{length, get_or, get_or-eq_default}
-use lib.Dec.{leb, lit<}
+use lib.ListN.{length, get_or}
+use lib.Dec.{leb}
 use borrow.Author.Tests.{le-leb, lt-leb, leb-true, leb-false}
 use Rattle.attr_walk.specs.declared.Attribute.{Attribute}
 use Rattle.attr_walk.specs.declared.Step.{Step}
@@ -16,20 +16,6 @@ use Rattle.attr_walk.specs.Attributes.{step_at, length_at}
 pub step_end : (s : List ℕ) (at : ℕ) → length s ≤ at → step_at s at ≡ End
 unfolding step_at
 step_end s at h = simp (le-leb _ _ h)
-
-pub step_short : (s : List ℕ) (at : ℕ) → at < length s → length_at s at < 2 → step_at s at ≡ Bad
-unfolding step_at
-step_short s at h k = simp (lt-leb _ _ h, lt-leb _ _ k)
-
--- a lone last byte
-pub step_cut : (s : List ℕ) (at : ℕ) → at < length s → length s - at < 2 → step_at s at ≡ Bad
-step_cut s at h k =
-    let past : length s ≤ at + 1 = omega arith in
-    step_short s at h (rw (get_or-eq_default s 0 past) (lit< tt))
-
-pub step_long : (s : List ℕ) (at : ℕ) → at < length s → 2 ≤ length_at s at → length s - at < length_at s at → step_at s at ≡ Bad
-unfolding step_at
-step_long s at h k l = simp (lt-leb _ _ h, le-leb _ _ k, lt-leb _ _ l)
 
 pub step-found : (s : List ℕ) (at : ℕ) → at < length s → 2 ≤ length_at s at → length_at s at ≤ length s - at
     → step_at s at ≡ Found (record { kind = get_or s at 0; at = at; size = length_at s at }) (at + length_at s at)

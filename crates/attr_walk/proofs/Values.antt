@@ -22,12 +22,6 @@ value_of_lem s w r a e g h =
 
 -- ---- the attribute that a step found
 
-pub standing_end : (x : Step) → x ≡ End → nothing ≡ standing x
-standing_end x e = rw e
-
-pub standing_bad : (x : Step) → x ≡ Bad → nothing ≡ standing x
-standing_bad x e = rw e
-
 value_none : (s : List ℕ) → value_of s nothing ≡ []
 unfolding part value_of
 value_none s = refl

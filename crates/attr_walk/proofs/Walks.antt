@@ -81,3 +81,6 @@ module _ (s : List ℕ) (z : Bool) (at : ℕ) (x : Step) (i : z ≡ tiled_from s
 
   pub tiles_bad : x ≡ Bad → false ≡ z
   tiles_bad r = sym (i ∙ walk_bad _ _ _ s at (sym q ∙ r))
+
+-- what each turn of the loop of `attr_walk::tiles` needs
+pub ruleset tiling = (advance, tiles_on, tiles_end, tiles_bad)

@@ -1,11 +1,9 @@
 -- The attributes of a packet (document 01, "The packet"): an attribute is type, length (2 to 255, counting both), value.
 -- An area is the bytes of a packet from place 20 to its Length; places count from the area's start.
 -- Assumes nothing.
-use Rattle.std.specs.Prelude.{Bool, true, false, cond, ◌&&◌, List, [], ◌∷◌, ℕ, zero, suc, ◌+◌, ◌-◌, leb, eqb, length, get_or}
+use Rattle.std.specs.Prelude.{Bool, true, false, cond, ◌&&◌, List, [], ◌∷◌, ℕ, zero, suc, ◌+◌, ◌-◌, leb, eqb, length, get_or, Option, Some, None, is_some, find}
 use Rattle.octet_numbers.specs.Runs.{part}
 use Rattle.attr_walk.specs.declared.Attribute.{Attribute}
-use Rattle.attr_walk.specs.declared.Search.{Search}
-use Rattle.attr_walk.specs.declared.Search.TheVariants.{At, Missing}
 use Rattle.attr_walk.specs.declared.Step.{Step}
 use Rattle.attr_walk.specs.declared.Step.TheVariants.{Found, End, Bad}
 
@@ -55,22 +53,20 @@ abbrev pub tiled : List ℕ → Bool
 tiled s = tiled_from s 0
 
 -- the first attribute that passes a test
-abbrev pub first_of : (Attribute → Bool) → List Attribute → Search
-first_of p [] = Missing
-first_of p (a ∷ rest) = cond (p a) (At a) (first_of p rest)
+abbrev pub first_of : (Attribute → Bool) → List Attribute → Option Attribute
+first_of p l = find p l
 
-abbrev pub found : Search → Bool
-found (At a) = true
-found Missing = false
+abbrev pub found : Option Attribute → Bool
+found x = is_some x
 
 -- one of them does
 abbrev pub any : (Attribute → Bool) → List Attribute → Bool
 any p l = found (first_of p l)
 
 -- what a test says of the first; false where there is none
-abbrev pub on_first : (Attribute → Bool) → Search → Bool
-on_first q (At a) = q a
-on_first q Missing = false
+abbrev pub on_first : (Attribute → Bool) → Option Attribute → Bool
+on_first q (Some a) = q a
+on_first q None = false
 
 -- how many do
 abbrev pub count_of : (Attribute → Bool) → List Attribute → ℕ

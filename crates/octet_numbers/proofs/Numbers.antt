@@ -18,10 +18,6 @@ pub be_two : (l : List ℕ) (at r : ℕ) → r ≡ get_or l at 0 * 256 + get_or 
 unfolding be
 be_two l at r e = rw add-zero (omega arith)
 
-pub be-four : (l : List ℕ) (at r : ℕ) → r ≡ ((get_or l at 0 * 256 + get_or l (at + 1) 0) * 256 + get_or l (at + 2) 0) * 256 + get_or l (at + 3) 0 → r ≡ be at 4 l
-unfolding be
-be-four l at r e = rw add-zero (omega arith)
-
 pub length-be_bytes : (n v : ℕ) → length (be_bytes n v) ≡ n
 unfolding be_bytes
 length-be_bytes zero v = refl

@@ -2,12 +2,14 @@
 -- Assumes nothing.
 use mathlib.Core.Path.{◌≡◌, refl, sym, ap, ◌∙◌}
 use mathlib.Core.List.{List, [], ◌∷◌, ◌++◌, append-nil}
-use Prim.Native.Nat.{ℕ, zero, suc, ◌+◌, ◌≤◌, ◌<◌}
+use Prim.Native.Nat.{ℕ, zero, suc, ◌+◌, ◌-◌, ◌≤◌, ◌<◌}
 use native.Mathlib.Nat.{add-zero, zero-add, add-suc, suc-add}
 use native.Mathlib.Numerals.{add-one}
 use native.Mathlib.Omega.{arith}
 use lib.ListN.{length, length-append, get_or, take, drop, set, length-set}
-use lib.Seq.{take_at, drop-length, sets, length-sets, sets-eq, length-take-le, get_or-set_same, get_or-set_other, set_comm}
+use lib.Seq.{take_at, take-length, drop-length, sets, length-sets, sets-eq, length-take-le, get_or-set_same, get_or-set_other, set_comm}
+use borrow.Rule.Slice.PartMut.{put_mid}
+use Rattle.std.proofs.lemmas.Slice.{put_mid-paste}
 use Rattle.octet_numbers.specs.Runs.{write}
 
 pub length-write : (l : List ℕ) (i : ℕ) (vs : List ℕ) → length (write l i vs) ≡ length l
@@ -66,6 +68,11 @@ write_whole l vs e = sets-eq vs l 0 (omega arith) ∙ rw (zero-add, e, drop-leng
 pub write_eq : (l : List ℕ) (i : ℕ) (vs : List ℕ) → i + length vs ≤ length l → write l i vs ≡ take i l ++ vs ++ drop (i + length vs) l
 unfolding write
 write_eq l i vs h = sets-eq vs l i h
+
+-- a copy over the part of t from i to e: the part then holds vs
+pub copied_over : (i e : ℕ) (l xs vs : List ℕ) → xs ≡ vs → i + length vs ≡ e → e ≤ length l → put_mid i (e - i) l xs ≡ write l i vs
+copied_over i e l xs vs eq h g =
+    put_mid-paste i (e - i) l xs vs (length vs) eq (omega arith) refl ∙ rw take-length (sym (write_eq l i vs (omega arith)))
 
 -- a write to the end of the list
 pub write_end : (t l : List ℕ) (i : ℕ) (vs : List ℕ) → t ≡ write l i vs → i + length vs ≡ length l → t ≡ take i l ++ vs

@@ -1,6 +1,8 @@
 -- D1 to D3 of document 01's "Silent discards, first that applies".
 -- Assumes nothing.
-use Rattle.std.specs.Prelude.{Bool, cond, not, ◌||◌, List, ◌≡◌, ℕ, ◌≤◌, eqb, ltb, length}
+use Rattle.std.specs.Prelude.{Bool, cond, not, ◌||◌, List, ◌≡◌, ℕ, ◌≤◌, eqb, ltb, length, Option, Some, None}
+use Rattle.refusals.specs.declared.Discard.{Discard}
+use Rattle.refusals.specs.declared.Discard.TheVariants as D
 use Rattle.attr_walk.specs.Attributes.{tiled}
 use Rattle.packet_form.specs.Packet.{code_of, length_of, area_of}
 
@@ -16,9 +18,9 @@ bad_code p = not (eqb (code_of p) 40 || eqb (code_of p) 43)
 unfoldable pub bad_attributes : List ℕ → Bool
 bad_attributes p = not (tiled (area_of p))
 
--- D1, D2, D3, the first that applies; 0 where none does
-unfoldable pub form_of : List ℕ → ℕ
-form_of p = cond (bad_length p) 1 (cond (bad_code p) 2 (cond (bad_attributes p) 3 0))
+-- D1, D2, D3, the first that applies
+unfoldable pub form_of : List ℕ → Option Discard
+form_of p = cond (bad_length p) (Some D.Length) (cond (bad_code p) (Some D.Code) (cond (bad_attributes p) (Some D.Attributes) None))
 
 -- n is the Length of a packet that does not meet D1
 pub record Sized (p : List ℕ) (n : ℕ) : Type 0 where

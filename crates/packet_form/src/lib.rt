@@ -1,17 +1,19 @@
 // What a packet is made of, and whether it has the form of a request: D1 to D3.
 #![tactic(auto)]
 
-ghost use Rattle.std.specs.Prelude.{◌≡◌, false, ◌||◌, eqb};
-ghost use Rattle.packet_form.specs.Discards.{bad_length, form_of, Sized};
+mod packet; // packet.rt: a packet where it lies, and its parts
+
+ghost use Rattle.std.specs.Prelude.{◌≡◌, ◌||◌, eqb, Some, None, MatchResult};
+ghost use Rattle.packet_form.specs.Discards.{bad_length, form_of};
+
+pub use packet::Packet;
+use refusals::Discard;
 
 // Disconnect-Request or CoA-Request.
 fn request_code(code: u8) -> bool
-    ensures { result ≡ eqb code 40 || eqb code 43 }
+    ensures { result ≡ (eqb code 40 || eqb code 43) }
 {
-    if code == 40 {
-        return true;
-    }
-    code == 43
+    code == 40 || code == 43
 }
 
 // D1: fewer than 20 bytes given; Length below 20, above 4,096 or above the bytes given.
@@ -21,7 +23,7 @@ pub fn bad_length(p: &[u8]) -> bool
     if p.len() < 20 {
         return true;
     }
-    let n = octet_numbers::be16(p, 2) as usize;
+    let n = usize::from(octet_numbers::be16(p, 2));
     if n < 20 {
         return true;
     }
@@ -31,35 +33,19 @@ pub fn bad_length(p: &[u8]) -> bool
     p.len() < n
 }
 
-// D1, D2 or D3, the first that applies; 0 where none does.
-pub fn form(p: &[u8]) -> u8
-    ensures { result ≡ form_of p.now }
+// The packet that the bytes p begin with; or D1, D2 or D3, the first that applies.
+pub fn form(p: &[u8]) -> Result<Packet<'_>, Discard>
+    ensures { MatchResult result (λ packet. (form_of p.now ≡ None) × (packet.bytes.now ≡ p.now)) (λ d. form_of p.now ≡ Some d) }
 {
     if bad_length(p) {
-        return 1;
+        return Err(Discard::Length);
     }
-    let n = sized(p);
-    if request_code(p[0]) {
-        if attr_walk::tiles(octet_runs::slice(p, 20, n - 20)) {
-            return 0;
-        }
-        return 3;
+    let packet = Packet::sized(p);
+    if !request_code(p[0]) {
+        return Err(Discard::Code);
     }
-    2
-}
-
-// The Length of a packet that does not meet D1.
-pub fn sized(p: &[u8]) -> usize
-    requires { bad_length p.now ≡ false }
-    ensures { Sized p.now result }
-{
-    octet_numbers::be16(p, 2) as usize
-}
-
-// The Length of a packet that meets none of D1 to D3.
-pub fn length_of(p: &[u8]) -> usize
-    requires { form_of p.now ≡ 0 }
-    ensures { Sized p.now result }
-{
-    sized(p)
+    if attr_walk::tiles(packet.area()) {
+        return Ok(packet);
+    }
+    Err(Discard::Attributes)
 }

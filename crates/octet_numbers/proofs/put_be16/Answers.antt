@@ -1,14 +1,9 @@
--- `octet_numbers::put_be16` meets its contract: two stores are a write of two bytes.
-use lib.ListN.{length-set}
-use native.Mathlib.Numerals.{add-one}
-use native.Mathlib.Omega.{arith}
-use Rattle.octet_numbers.specs.Runs.{write}
+-- `octet_numbers::put_be16` meets its contract: the library's bytes of v are the definition's, and the part of t that they were copied over holds them.
+use borrow.Author.Rules.{rules}
 use Rattle.octet_numbers.specs.Numbers.{be_bytes}
+use Rattle.octet_numbers.proofs.Write.{copied_over}
 use Rattle.octet_numbers.proofs.put_be16.Goals as goal
 
-pub bounds-t-at-2 : goal.bounds-t-at-2
-bounds-t-at-2 c = simp length-set (omega arith)
-
 pub returns : goal.returns
-unfolding write be_bytes
-returns c = rw add-one
+unfolding be_bytes
+returns c = search (rules, copied_over)
