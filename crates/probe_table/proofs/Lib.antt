@@ -1,3 +1,2 @@
-pub mod Answers
-pub mod Cases
-pub mod Handed
+pub mod Copied
+pub mod Low

@@ -24,10 +24,7 @@ pub extern "C" fn probe_table_count(t: &[u8]) -> u32
 pub extern "C" fn probe_table_live(t: &[u8], k: usize) -> u32
     ensures { result ≡ truth (live (slot k t.now)) }
 {
-    if table_slots::slot_live(t, k) {
-        return 1;
-    }
-    0
+    u32::from(table_slots::slot_live(t, k))
 }
 
 // 1 where slot k is live and meets the criteria, whose values lie in the area, else 0.
@@ -35,14 +32,12 @@ pub extern "C" fn probe_table_live(t: &[u8], k: usize) -> u32
 pub extern "C" fn probe_table_match(t: &[u8], k: usize, area: &[u8], criteria: &[u8]) -> u32
     ensures { result ≡ truth (matches_at area.now (listed (criteria_of criteria.now)) t.now k) }
 {
-    if table_match::match_slot(t, k, area, given::criteria_of(criteria)) {
-        return 1;
-    }
-    0
+    u32::from(table_match::match_slot(t, k, area, given::criteria_of(criteria)))
 }
 
 // The marks of all slots; refused where there is not room for 64, and no more.
 #[unsafe(no_mangle)]
+#[tactic(auto, unfolding(crate::specs::Answers::marks_room))]
 pub extern "C" fn probe_table_marks(t: &[u8], area: &[u8], criteria: &[u8], marks: &mut [u8]) -> u32
     ensures value { result ≡ answer (marks_room marks.old) }
     ensures marks_after { marks.new ≡ cond (marks_room marks.old) (marks_after (matches_at area.now (listed (criteria_of criteria.now)) t.now) (slot_count t.now)) marks.old }

@@ -8,6 +8,7 @@ ghost use Rattle.probe_table.specs.Given.{change_of};
 ghost use Rattle.probe_table.specs.Answers.{answer, marks_room, insert_number, insert_slot, remove_number};
 
 use crate::given::change_of;
+use table_records::Session;
 
 // Changes every slot that is marked and live, and says how many there are.
 fn change_all(t: &mut [u8], area: &[u8], marks: &[u8], c: table_change::Change) -> u32
@@ -22,6 +23,7 @@ fn change_all(t: &mut [u8], area: &[u8], marks: &[u8], c: table_change::Change) 
 
 // Ends or alters every slot that is marked and live; refused where there are not 64 marks.
 #[unsafe(no_mangle)]
+#[tactic(auto, unfolding(crate::specs::Answers::marks_room))]
 pub extern "C" fn probe_table_change(
     t: &mut [u8],
     area: &[u8],
@@ -72,13 +74,22 @@ pub extern "C" fn probe_table_insert(
     ensures t_after { t.new ≡ insert_table (session_of port address timeout idle user.now id.now station.now filter.now) t.old }
     ensures slot_after { slot.new ≡ insert_slot (insert_answer (session_of port address timeout idle user.now id.now station.now filter.now) t.old) slot.old }
 {
-    let r = table_sessions::insert(t, port, address, timeout, idle, user, id, station, filter);
-    match r {
-        table_sessions::Inserted::Slot(k) => {
+    let x = Session {
+        nas_port: port,
+        framed_address: address,
+        session_timeout: timeout,
+        idle_timeout: idle,
+        user_name: user,
+        session_id: id,
+        calling_station: station,
+        filter_id: filter,
+    };
+    match table_sessions::insert(t, &x) {
+        Ok(k) => {
             *slot = k as u32;
             0
         }
-        table_sessions::Inserted::NotInserted(n) => n as u32,
+        Err(refusal) => u32::from(refusal),
     }
 }
 
@@ -88,9 +99,8 @@ pub extern "C" fn probe_table_remove(t: &mut [u8], k: usize) -> u32
     ensures value { result ≡ remove_number (remove_answer k t.old) }
     ensures t_after { t.new ≡ remove_table k t.old }
 {
-    let r = table_sessions::remove(t, k);
-    match r {
-        table_sessions::Removed::Gone => 0,
-        table_sessions::Removed::NotRemoved(n) => n as u32,
+    match table_sessions::remove(t, k) {
+        Ok(()) => 0,
+        Err(refusal) => u32::from(refusal),
     }
 }

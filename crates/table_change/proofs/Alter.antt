@@ -1,5 +1,7 @@
 -- Alterations of a slot: a field written in the table is that field written in its slot, and the slot's length stays.
 -- Assumes nothing.
+use Rattle.std.specs.Prelude.{Option, None, Some}
+use Rattle.octet_runs.specs.declared.span.Span.{Span}
 use mathlib.Core.Path.{◌≡◌, refl, ap, ◌∙◌}
 use mathlib.Core.List.{List}
 use Prim.Native.Nat.{ℕ, ◌+◌, ◌*◌, ◌≤◌}
@@ -15,21 +17,17 @@ use Rattle.table_slots.proofs.Places.{slot_same, length-slot}
 use Rattle.table_records.specs.Record.{text_field}
 use Rattle.table_records.proofs.Fields.{length-text_field}
 use Rattle.table_change.specs.declared.Alteration.{Alteration}
-use Rattle.table_change.specs.declared.Number.{Number}
-use Rattle.table_change.specs.declared.Number.TheVariants as N
-use Rattle.table_change.specs.declared.Text.{Text}
-use Rattle.table_change.specs.declared.Text.TheVariants as T
 use Rattle.table_change.specs.Change.{set_number, set_text, altered}
 
-pub length-set_number : (x : Number) (i : ℕ) (s : List ℕ) → length (set_number x i s) ≡ length s
+pub length-set_number : (x : Option ℕ) (i : ℕ) (s : List ℕ) → length (set_number x i s) ≡ length s
 unfolding set_number
-length-set_number N.Unchanged i s = refl
-length-set_number (N.Set v) i s = length-write s i (be_bytes 4 v)
+length-set_number None i s = refl
+length-set_number (Some v) i s = length-write s i (be_bytes 4 v)
 
-pub length-set_text : (area : List ℕ) (x : Text) (i : ℕ) (s : List ℕ) → length (set_text area x i s) ≡ length s
+pub length-set_text : (area : List ℕ) (x : Option Span) (i : ℕ) (s : List ℕ) → length (set_text area x i s) ≡ length s
 unfolding set_text
-length-set_text area T.Unchanged i s = refl
-length-set_text area (T.Set at size) i s = length-write s i (text_field 32 (part at size area))
+length-set_text area None i s = refl
+length-set_text area (Some r) i s = length-write s i (text_field 32 (part r.at r.size area))
 
 -- the fields, written one after the other
 module _ (area : List ℕ) (a : Alteration) (s : List ℕ) where
@@ -60,15 +58,15 @@ module _ (area : List ℕ) (a : Alteration) (s : List ℕ) where
 
 -- ---- s lies at place m of t
 module _ (t s : List ℕ) (m i : ℕ) where
-  number_in : (x : Number) → i + 4 ≤ length s → set_number x (m + i) (write t m s) ≡ write t m (set_number x i s)
+  number_in : (x : Option ℕ) → i + 4 ≤ length s → set_number x (m + i) (write t m s) ≡ write t m (set_number x i s)
   unfolding set_number
-  number_in N.Unchanged h = refl
-  number_in (N.Set v) h = write_in t s m i (be_bytes 4 v) (rw length-be_bytes h)
+  number_in None h = refl
+  number_in (Some v) h = write_in t s m i (be_bytes 4 v) (rw length-be_bytes h)
 
-  text_in : (area : List ℕ) (x : Text) → i + 33 ≤ length s → set_text area x (m + i) (write t m s) ≡ write t m (set_text area x i s)
+  text_in : (area : List ℕ) (x : Option Span) → i + 33 ≤ length s → set_text area x (m + i) (write t m s) ≡ write t m (set_text area x i s)
   unfolding set_text
-  text_in area T.Unchanged h = refl
-  text_in area (T.Set at size) h = write_in t s m i (text_field 32 (part at size area)) (rw length-text_field h)
+  text_in area None h = refl
+  text_in area (Some r) h = write_in t s m i (text_field 32 (part r.at r.size area)) (rw length-text_field h)
 
 -- the five fields written in the table, one after the other
 pub altered_in : (area t t₁ t₂ t₃ t₄ t₅ : List ℕ) (a : Alteration) (k : ℕ) → (k + 1) * 192 ≤ length t

@@ -1,4 +1,3 @@
-pub mod Put
 pub mod Alter
 pub mod Slots
 pub mod Turns

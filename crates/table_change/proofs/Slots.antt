@@ -5,16 +5,13 @@ use mathlib.Core.Bool.{Bool, true, false, cond}
 use mathlib.Core.List.{List}
 use Prim.Native.Nat.{ℕ, zero, suc, ◌*◌, ◌≤◌}
 use native.Mathlib.Omega.{arith}
-use borrow.Author.Tests.{eq-eqb, ne_eqb}
-use lib.ListN.{length, get_or, replicate, length-replicate}
-use Rattle.octet_numbers.specs.Runs.{write}
+use lib.ListN.{length, length-replicate}
 use Rattle.octet_numbers.proofs.Write.{length-write}
-use Rattle.table_slots.specs.Slot.{slot, live}
+use Rattle.table_slots.specs.Slot.{slot}
 use Rattle.table_slots.proofs.Places.{slot-written_other, slot_short}
-use Rattle.table_change.specs.declared.Alteration.{Alteration}
 use Rattle.table_change.specs.declared.Change.{Change}
 use Rattle.table_change.specs.declared.Change.TheVariants.{End, Alter}
-use Rattle.table_change.specs.Change.{altered, changed, change_at, change_where, marked}
+use Rattle.table_change.specs.Change.{changed, change_at, change_where}
 use Rattle.table_change.proofs.Alter.{length-altered}
 
 pub length-changed : (area : List ℕ) (c : Change) (s : List ℕ) → length s ≡ 192 → length (changed area c s) ≡ 192
@@ -26,17 +23,6 @@ pub changed_short : (area : List ℕ) (c : Change) (s : List ℕ) → length s �
 unfolding changed
 changed_short area End s h = rw length-replicate (omega arith)
 changed_short area (Alter a) s h = rw (length-altered area a s) h
-
--- ---- a slot changed
-
-module _ (area t t' : List ℕ) (c : Change) (k : ℕ) where
-  pub change_end : c ≡ End → t' ≡ write t (k * 192) (replicate 192 0) → t' ≡ change_at area c k t
-  unfolding change_at changed
-  change_end e g = rw e g
-
-  pub change_alter : (a : Alteration) → c ≡ Alter a → t' ≡ write t (k * 192) (altered area a (slot k t)) → t' ≡ change_at area c k t
-  unfolding change_at changed
-  change_alter a e g = rw e g
 
 module _ (area : List ℕ) (c : Change) where
   pub length-change_at : (k : ℕ) (t : List ℕ) → length (change_at area c k t) ≡ length t
@@ -68,12 +54,3 @@ module _ (area : List ℕ) (c : Change) where
     unfolding change_where
     slot-later j zero t h = refl
     slot-later j (suc k) t h = other_by (f k) j k (change_where area c f k t) (λ e. omega arith) ∙ slot-later j k t (omega arith)
-
--- ---- the test of a slot
-
-module _ (marks t : List ℕ) (k : ℕ) where
-  pub mark_none : (get_or marks k 0 ≡ 1 → ⊥) → false ≡ marked marks t k
-  mark_none h = rw (ne_eqb _ _ h)
-
-  pub mark_live : (r : Bool) → get_or marks k 0 ≡ 1 → r ≡ live (slot k t) → r ≡ marked marks t k
-  mark_live r h e = rw (eq-eqb _ _ h) e

@@ -4,12 +4,11 @@ use mathlib.Core.Path.{◌≡◌, refl, ap, ◌∙◌}
 use mathlib.Core.Bool.{Bool, true, false, ◌&&◌}
 use mathlib.Core.List.{List}
 use Prim.Native.Nat.{ℕ, ◌+◌, ◌*◌, ◌≤◌, ◌<◌}
-use native.Mathlib.Nat.{le_antisymm}
 use native.Mathlib.Numerals.{add-one}
 use native.Mathlib.Omega.{arith}
 use lib.Dec.{eqb}
 use lib.ListN.{length, get_or}
-use Rattle.table_slots.specs.Slot.{slot_count, slot, live}
+use Rattle.table_slots.specs.Slot.{slot, live}
 use Rattle.table_slots.proofs.Count.{Counted}
 use Rattle.table_slots.specs.Marks.{count_to}
 use Rattle.table_change.specs.declared.Change.{Change}
@@ -54,13 +53,6 @@ module _ (area : List ℕ) (c : Change) (marks t t₀ : List ℕ) (k : ℕ) (e :
     pub turn_passed : (n n' : ℕ) → n ≡ count_marked marks k t₀ → n' ≡ n → r ≡ false → n' ≡ count_marked marks (k + 1) t₀
     unfolding count_marked count_to
     turn_passed n n' g d h = rw (add-one, ← same_test, ← is, h) (d ∙ g)
-
-  module _ (n : ℕ) (is : n ≡ slot_count t₀) (h : k ≤ n) (g : n ≤ k) where
-    pub all_changed : t ≡ change_marked area c marks (slot_count t₀) t₀
-    all_changed = e ∙ ap (λ (i : ℕ). change_marked area c marks i t₀) (le_antisymm h g ∙ is)
-
-pub all_counted : (marks t₀ : List ℕ) (k m n : ℕ) → m ≡ count_marked marks k t₀ → n ≡ slot_count t₀ → k ≤ n → n ≤ k → m ≡ count_marked marks (slot_count t₀) t₀
-all_counted marks t₀ k m n e is h g = e ∙ ap (λ (i : ℕ). count_marked marks i t₀) (le_antisymm h g ∙ is)
 
 -- a test tells as much where another is joined to it
 pub both_first : (a b : Bool) → (a && b) ≡ true → a ≡ true

@@ -1,6 +1,8 @@
 -- What an alteration keeps: bytes 0 to 9, 18 to 147 and 189 to 191 are beside all that it writes.
 -- So a live slot stays live, with every field that a criterion can name.
 -- Assumes nothing.
+use Rattle.std.specs.Prelude.{Option, None, Some}
+use Rattle.octet_runs.specs.declared.span.Span.{Span}
 use mathlib.Core.Path.{◌≡◌, refl, sym, ap, ◌∙◌}
 use mathlib.Core.Bool.{Bool, true}
 use mathlib.Core.List.{List, [], ◌∷◌}
@@ -24,10 +26,6 @@ use Rattle.table_records.specs.Record.{text_field}
 use Rattle.table_records.proofs.Fields.{length-text_field}
 use Rattle.table_records.proofs.Texts.{field_written, head_there}
 use Rattle.table_change.specs.declared.Alteration.{Alteration}
-use Rattle.table_change.specs.declared.Number.{Number}
-use Rattle.table_change.specs.declared.Number.TheVariants as N
-use Rattle.table_change.specs.declared.Text.{Text}
-use Rattle.table_change.specs.declared.Text.TheVariants as T
 use Rattle.table_change.specs.Change.{set_number, set_text, altered}
 use Rattle.table_change.proofs.Alter.{timed, idled, filtered, slowed, length_idled}
 
@@ -41,17 +39,17 @@ same_byte l m j e = first l ∙ ap (λ (u : List ℕ). get_or u 0 0) e ∙ sym (
 -- ---- a part beside one field
 
 module _ (m n i : ℕ) (s : List ℕ) where
-  pub part_number : (x : Number) → ((m + n ≤ i) ⊎ (i + 4 ≤ m)) → part m n (set_number x i s) ≡ part m n s
+  pub part_number : (x : Option ℕ) → ((m + n ≤ i) ⊎ (i + 4 ≤ m)) → part m n (set_number x i s) ≡ part m n s
   unfolding set_number
-  part_number N.Unchanged o = refl
-  part_number (N.Set v) o =
+  part_number None o = refl
+  part_number (Some v) o =
       ⊎_elim (λ h. part_before s i (be_bytes 4 v) m n h) (λ h. part-after s i (be_bytes 4 v) m n (rw length-be_bytes h)) o
 
-  pub part-text : (area : List ℕ) (x : Text) → ((m + n ≤ i) ⊎ (i + 33 ≤ m)) → part m n (set_text area x i s) ≡ part m n s
+  pub part-text : (area : List ℕ) (x : Option Span) → ((m + n ≤ i) ⊎ (i + 33 ≤ m)) → part m n (set_text area x i s) ≡ part m n s
   unfolding set_text
-  part-text area T.Unchanged o = refl
-  part-text area (T.Set at size) o =
-      let v : List ℕ = text_field 32 (part at size area) in
+  part-text area None o = refl
+  part-text area (Some r) o =
+      let v : List ℕ = text_field 32 (part r.at r.size area) in
       ⊎_elim (λ h. part_before s i v m n h) (λ h. part-after s i v m n (rw length-text_field h)) o
 
 -- ---- a part beside all five
@@ -108,11 +106,11 @@ module _ (area : List ℕ) (a : Alteration) (s : List ℕ) where
     field_kept CallingStation = text_by 115 (omega arith) (omega (arith, live_station s l))
     field_kept SessionId = text_by 82 (omega arith) (omega (arith, live_id s l))
 
-    filter_by : (x : Text) (u : List ℕ) → within 0 32 (get_or u 148 0) ≡ true → 181 ≤ length u → within 0 32 (get_or (set_text area x 148 u) 148 0) ≡ true
+    filter_by : (x : Option Span) (u : List ℕ) → within 0 32 (get_or u 148 0) ≡ true → 181 ≤ length u → within 0 32 (get_or (set_text area x 148 u) 148 0) ≡ true
     unfolding set_text
-    filter_by T.Unchanged u h g = h
-    filter_by (T.Set at size) u h g =
-        let v : List ℕ = part at size area in
+    filter_by None u h g = h
+    filter_by (Some r) u h g =
+        let v : List ℕ = part r.at r.size area in
         let m : length (take 32 v) ≤ 32 = rw length-take (omega arith) in
         rw (head_there (write u 148 (text_field 32 v)) 148 32 v (field_written u 148 32 v (omega arith))) (within_is 0 32 (length (take 32 v)) (omega arith) m)
 

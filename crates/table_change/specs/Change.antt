@@ -1,5 +1,7 @@
 -- How a slot is ended or altered, and the slots of a table that are named or marked (document 01, "The session table").
 -- Assumes nothing.
+use Rattle.std.specs.Prelude.{Option, None, Some}
+use Rattle.octet_runs.specs.declared.span.Span.{Span}
 use Rattle.std.specs.Prelude.{Bool, ◌&&◌, cond, List, ℕ, zero, suc, ◌*◌, eqb, get_or, replicate}
 use Rattle.octet_numbers.specs.Numbers.{be_bytes}
 use Rattle.octet_numbers.specs.Runs.{part, write}
@@ -9,20 +11,16 @@ use Rattle.table_records.specs.Record.{text_field}
 use Rattle.table_change.specs.declared.Change.{Change}
 use Rattle.table_change.specs.declared.Change.TheVariants.{End, Alter}
 use Rattle.table_change.specs.declared.Alteration.{Alteration}
-use Rattle.table_change.specs.declared.Number.{Number}
-use Rattle.table_change.specs.declared.Number.TheVariants as N
-use Rattle.table_change.specs.declared.Text.{Text}
-use Rattle.table_change.specs.declared.Text.TheVariants as T
 
 -- all 32 bits of a number, where the request names it
-unfoldable pub set_number : Number → ℕ → List ℕ → List ℕ
-set_number N.Unchanged i s = s
-set_number (N.Set v) i s = write s i (be_bytes 4 v)
+unfoldable pub set_number : Option ℕ → ℕ → List ℕ → List ℕ
+set_number None i s = s
+set_number (Some v) i s = write s i (be_bytes 4 v)
 
 -- a text, of which at most 32 bytes are kept: a part of the area of the request's attributes, where the request names it
-unfoldable pub set_text : List ℕ → Text → ℕ → List ℕ → List ℕ
-set_text area T.Unchanged i s = s
-set_text area (T.Set at size) i s = write s i (text_field 32 (part at size area))
+unfoldable pub set_text : List ℕ → Option Span → ℕ → List ℕ → List ℕ
+set_text area None i s = s
+set_text area (Some r) i s = write s i (text_field 32 (part r.at r.size area))
 
 -- a slot with the fields that a CoA names: Session-Timeout, Idle-Timeout, Filter-Id, down rate, up rate
 unfoldable pub altered : List ℕ → Alteration → List ℕ → List ℕ

@@ -1,5 +1,1 @@
-pub mod Fields
-pub mod Inside
-pub mod Passing
 pub mod Sieves
-pub mod Walk

@@ -1,10 +1,10 @@
 -- A slot against a list of criteria, as the code walks it. Which sessions a request names is said in das_effects/specs/Matching.antt; of
 -- this file the contracts of the calls use `field_bytes` alone, the field of a session that a criterion asks for.
 -- Assumes nothing.
-use Rattle.std.specs.Prelude.{Bool, true, ◌&&◌, List, [], ◌∷◌, ℕ, ◌+◌, leb, length, take}
+use Rattle.std.specs.Prelude.{Bool, true, ◌&&◌, List, [], ◌∷◌, ℕ, ◌+◌, leb, length, Option, None, Some}
+use Rattle.std.specs.List.{filter_map}
 use Rattle.octet_numbers.specs.Runs.{part, equal_bytes}
 use Rattle.table_slots.specs.Slot.{live, slot, user_name, calling_station, session_id}
-use Rattle.table_criteria.specs.declared.Criteria.{Criteria}
 use Rattle.table_criteria.specs.declared.Criterion.{Criterion}
 use Rattle.table_criteria.specs.declared.Field.{Field}
 use Rattle.table_criteria.specs.declared.Field.TheVariants.{UserName, NasPort, FramedAddress, CallingStation, SessionId}
@@ -27,11 +27,11 @@ place SessionId = 82
 
 -- the value asked for, a part of the area of the request's attributes
 abbrev pub wanted : List ℕ → Criterion → List ℕ
-wanted area c = part c.at c.size area
+wanted area c = part c.value.at c.value.size area
 
 -- it lies in the area as a whole, and is no longer than a text can be
 unfoldable pub inside : List ℕ → Criterion → Bool
-inside area c = leb (c.at + c.size) (length area) && leb c.size 63
+inside area c = leb (c.value.at + c.value.size) (length area) && leb c.value.size 63
 
 -- the field equals the value asked for
 unfoldable pub meets : List ℕ → List ℕ → Criterion → Bool
@@ -41,9 +41,15 @@ abbrev pub all : (Criterion → Bool) → List Criterion → Bool
 all f [] = true
 all f (c ∷ cs) = f c && all f cs
 
--- the criteria of a request
-abbrev pub listed : Criteria → List Criterion
-listed c = take c.count c.list
+-- the criteria of a request: those that are there, in order
+abbrev pub listed : List (Option Criterion) → List Criterion
+listed cs = filter_map (λ c. c) cs
+
+-- the first of them
+abbrev pub first_of : List (Option Criterion) → Option Criterion
+first_of [] = None
+first_of (None ∷ cs) = first_of cs
+first_of (Some c ∷ cs) = Some c
 
 -- a live slot that meets every criterion
 unfoldable pub matches : List ℕ → List Criterion → List ℕ → Bool

@@ -1,67 +1,61 @@
 // Which slots a request names: whether one of them matches, and the marks of all.
 #![tactic(auto)]
 
-ghost use Rattle.std.specs.Prelude.{◌≡◌};
+ghost use Rattle.std.specs.Prelude.{◌≡◌, true, length};
 ghost use Rattle.table_slots.specs.Slot.{slot_count};
 ghost use Rattle.table_slots.specs.Marks.{marks_after};
-ghost use Rattle.table_criteria.specs.Meets.{listed, matches_at};
+ghost use Rattle.table_criteria.specs.Meets.{all, listed, meets, matches, matches_at};
+ghost use Rattle.table_criteria.specs.Passes.{passes};
 
-use table_criteria::{Criteria, compare, first};
+use table_criteria::{Criteria, Sieve, compare, first};
+
+// Whether the slot s meets every criterion.
+#[inline]
+fn meets_all(area: &[u8], s: &[u8], c: &Criteria) -> bool
+    ensures { result ≡ all (meets area.now s.now) (listed c.now) }
+{
+    for asked in c {
+        if let Some(one) = asked
+            && !compare::meets_one(area, s, *one)
+        {
+            return false;
+        }
+    }
+    true
+}
 
 // Whether slot k is live and meets every criterion. The lengths are looked at last: most slots fail before.
+#[tactic(auto, using(table_slots::proofs::Live::unmarked), unfolding(table_criteria::specs::Meets::matches))]
 pub fn match_slot(t: &[u8], k: usize, area: &[u8], c: Criteria) -> bool
     ensures { result ≡ matches_at area.now (listed c) t.now k }
 {
     let s = table_slots::slot_of(t, k);
-    if !table_slots::has_mark(s) {
-        return false;
-    }
-    let n = compare::number_of(c);
-    let mut i = 0;
-    while i < n {
-        let one = c.list[i];
-        if !compare::meets_one(area, s, one) {
-            return false;
-        }
-        i += 1;
-    }
-    table_slots::is_live(s)
+    table_slots::has_mark(s) && meets_all(area, s, &c) && table_slots::is_live(s)
 }
 
-// The marks of all slots: 1 for each that is live and meets every criterion. The sieve, made once, spares most others the comparison.
+// Whether the whole slot s is live and meets every criterion, where those that do pass the sieve, which spares most others the comparison.
+#[inline]
+#[tactic(auto, using(table_slots::proofs::Live::unmarked), unfolding(table_criteria::specs::Meets::matches))]
+fn match_sieved(s: &[u8], sieve: Option<Sieve>, area: &[u8], c: &Criteria) -> bool
+    requires { (length s.now ≡ 192) × (matches area.now (listed c.now) s.now ≡ true → passes sieve s.now ≡ true) }
+    ensures { result ≡ matches area.now (listed c.now) s.now }
+{
+    table_slots::has_mark(s)
+        && first::passes(s, sieve)
+        && meets_all(area, s, c)
+        && table_slots::is_live(s)
+}
+
+// The marks of all slots: 1 for each that is live and meets every criterion. The sieve is made once.
 pub fn mark_all(t: &[u8], area: &[u8], c: Criteria) -> [u8; 64]
     ensures { result ≡ marks_after (matches_at area.now (listed c) t.now) (slot_count t.now) }
 {
-    let slots = table_slots::slot_count(t);
-    let n = compare::number_of(c);
-    let sieve = first::sieve_of(area, c, n);
+    let sieve = first::sieve_of(area, c);
     let mut marks = [0u8; 64];
-    let mut k = 0;
-    while k < slots {
-        let s = table_slots::whole_slot(t, k);
-        'slot: loop {
-            if !table_slots::has_mark(s) {
-                break 'slot;
-            }
-            let passed = first::passes(s, sieve);
-            if !passed {
-                break 'slot;
-            }
-            let mut i = 0;
-            while i < n {
-                let asked = c.list[i];
-                if !compare::meets_one(area, s, asked) {
-                    break 'slot;
-                }
-                i += 1;
-            }
-            if !table_slots::is_live(s) {
-                break 'slot;
-            }
+    for k in 0..table_slots::slot_count(t) {
+        if match_sieved(table_slots::whole_slot(t, k), sieve, area, &c) {
             marks[k] = 1;
-            break 'slot;
         }
-        k += 1;
     }
     marks
 }

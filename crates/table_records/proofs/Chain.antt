@@ -1,7 +1,6 @@
--- The record of a session, written in pieces one after the other; and the limits of its texts, tried in turn.
+-- The record of a session, written in pieces one after the other.
 -- Assumes nothing.
 use mathlib.Core.Path.{◌≡◌, sym, ap, ◌∙◌}
-use mathlib.Core.Bool.{Bool, true, false, not, ◌&&◌}
 use mathlib.Core.List.{List, [], ◌∷◌, ◌++◌, append_assoc}
 use Prim.Native.Nat.{ℕ, ◌+◌}
 use lib.ListN.{length, set, replicate, length-append, length-replicate}
@@ -9,17 +8,9 @@ use Rattle.octet_numbers.specs.Numbers.{be_bytes}
 use Rattle.octet_numbers.specs.Runs.{write}
 use Rattle.octet_numbers.proofs.Numbers.{length-be_bytes}
 use Rattle.octet_numbers.proofs.Write.{write_then, write_cons, write_one}
-use Rattle.table_slots.proofs.Live.{passed, refused}
 use Rattle.table_records.specs.Record.{text_field}
 use Rattle.table_records.specs.Record.{Session, record_of}
 use Rattle.table_records.proofs.Fields.{length-text_field}
-
--- a conjunction by its first test, whose answer r was tried as `if !r`
-pub and_fails : (r a b : Bool) → r ≡ a → not r ≡ true → false ≡ a && b
-and_fails r a b e h = rw (refused r a e h)
-
-pub and_next : (r a b x : Bool) → r ≡ a → not r ≡ false → x ≡ b → x ≡ a && b
-and_next r a b x e h g = rw (passed r a e h) g
 
 pub mark_written : (t : List ℕ) (at a b : ℕ) → set (set t at a) (at + 1) b ≡ write t at (a ∷ b ∷ [])
 mark_written t at a b = sym (write_cons t at a (b ∷ []) ∙ sym (write_one (set t at a) (at + 1) b))

@@ -11,7 +11,9 @@ use lib.ListN.{replicate, length-replicate}
 use Rattle.table_slots.specs.Slot.{slot_count, slot, live}
 use Rattle.table_slots.proofs.Count.{slot_fits}
 use Rattle.table_slots.proofs.Places.{slot-written, slot-written_other}
-use Rattle.table_sessions.specs.declared.Removed.TheVariants.{Gone, NotRemoved}
+use Rattle.std.specs.Prelude.{Result, Ok, Err}
+use Rattle.refusals.specs.declared.Refusal.{Refusal}
+use Rattle.refusals.specs.declared.Refusal.TheVariants as R
 use Rattle.table_sessions.specs.Session.{remove_answer, remove_table}
 
 pub record Ended (k : ℕ) (t : List ℕ) : Type 0 where
@@ -19,13 +21,13 @@ pub record Ended (k : ℕ) (t : List ℕ) : Type 0 where
   pub was : live (slot k t) ≡ true
 
 by_tests : (k : ℕ) (t : List ℕ) (none below lives : Bool) → ltb k (slot_count t) ≡ below → live (slot k t) ≡ lives
-    → cond none (NotRemoved 1) (cond (below && lives) Gone (NotRemoved 11)) ≡ Gone → Ended k t
+    → ◌≡◌ {A = Result (Unit {0}) Refusal} (cond none (Err R.TableLength) (cond (below && lives) (Ok tt) (Err R.NoSuchSession))) (Ok tt) → Ended k t
 by_tests k t true below lives h g e = absurd (let z : ◌≡◌ {A = ℕ} 0 1 = cc in omega arith)
 by_tests k t false false lives h g e = absurd (let z : ◌≡◌ {A = ℕ} 0 1 = cc in omega arith)
 by_tests k t false true false h g e = absurd (let z : ◌≡◌ {A = ℕ} 0 1 = cc in omega arith)
 by_tests k t false true true h g e = record { inside = ltb-true _ _ h; was = g }
 
-module _ (k : ℕ) (t : List ℕ) (e : remove_answer k t ≡ Gone) where
+module _ (k : ℕ) (t : List ℕ) (e : remove_answer k t ≡ Ok tt) where
   pub ended : Ended k t
   unfolding remove_answer
   ended = by_tests k t (eqb (slot_count t) 0) (ltb k (slot_count t)) (live (slot k t)) refl refl e

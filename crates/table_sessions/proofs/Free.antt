@@ -1,6 +1,6 @@
 -- The walks that a new session asks for: to a live slot with its Acct-Session-Id, and to the lowest free slot.
 -- Assumes nothing.
-use mathlib.Core.Path.{◌≡◌, refl, sym, ap, ◌∙◌}
+use mathlib.Core.Path.{◌≡◌, refl, sym, ◌∙◌}
 use mathlib.Core.Bool.{Bool, true, false, not, ◌&&◌, cond, or-true}
 use mathlib.Core.List.{List}
 use mathlib.Core.Logic.{⊎_elim}
@@ -9,21 +9,15 @@ use native.Mathlib.Nat.{eq-or-lt_of_le, le_of_suc-le-suc, le_antisymm}
 use native.Mathlib.Numerals.{add-one}
 use native.Mathlib.Omega.{arith}
 use lib.ListN.{length}
+use borrow.Author.Tests.{eq-eqb, ne_eqb, eqb-false}
+use lib.Dec.{eqb}
+use Rattle.std.specs.Prelude.{None, Some}
+use Rattle.std.proofs.lemmas.Option.{none-some, same_Some}
 use Rattle.octet_numbers.specs.Runs.{equal_bytes}
-use Rattle.table_slots.specs.Slot.{slot_count, slot, live, session_id, text}
+use Rattle.table_slots.specs.Slot.{slot_count, slot, live, session_id}
 use Rattle.table_slots.proofs.Live.{passed, refused}
 use Rattle.table_slots.proofs.Count.{counted_is}
-use Rattle.table_sessions.specs.Session.{id_live, free_from}
-
--- ---- the test of slot k: s is the slot, v its Acct-Session-Id
-
-module _ (id t s : List ℕ) (k : ℕ) (r : Bool) (e : r ≡ live s) (here : s ≡ slot k t) where
-  pub id_free : not r ≡ true → false ≡ live (slot k t) && equal_bytes id (session_id (slot k t))
-  id_free h = rw (← here, refused r _ e h)
-
-  pub id_compared : (v : List ℕ) (same : Bool) → not r ≡ false → v ≡ text 82 s → same ≡ equal_bytes id v
-      → same ≡ live (slot k t) && equal_bytes id (session_id (slot k t))
-  id_compared v same h g d = rw (← here, passed r _ e h, ← g) d
+use Rattle.table_sessions.specs.Session.{id_live, free_from, free_slot}
 
 -- ---- the walk to a live slot with this id: none of the first k is one
 
@@ -48,12 +42,9 @@ module _ (id t : List ℕ) (k n : ℕ) (r : Bool) (e : r ≡ live (slot k t) && 
   unfolding id_live
   id_next h g = rw (add-one, ← h, ← e, g)
 
-pub id_absent : (id t : List ℕ) (k n : ℕ) → false ≡ id_live id t k → k ≤ n → n ≤ k → false ≡ id_live id t n
-id_absent id t k n e h g = e ∙ ap (id_live id t) (le_antisymm h g)
-
 -- ---- the walk to the lowest free slot: r is the whole answer, that from slot k on; b is whether slot k is live
 
-module _ (t : List ℕ) (r k n : ℕ) (e : r ≡ free_from t k (n - k)) where
+module _ (t : List ℕ) (r k n : ℕ) (all : r ≡ free_from t 0 n) (e : r ≡ free_from t k (n - k)) (most : k ≤ n) where
   module _ (b : Bool) (is : b ≡ live (slot k t)) (h : k < n) where
     pub free_next : not b ≡ false → r ≡ free_from t (k + 1) (n - (k + 1))
     unfolding free_from
@@ -61,20 +52,21 @@ module _ (t : List ℕ) (r k n : ℕ) (e : r ≡ free_from t k (n - k)) where
         let d : n - k ≡ suc (n - (k + 1)) = omega arith in
         e ∙ rw (d, passed b _ is l, add-one)
 
-    pub free_here : not b ≡ true → k ≡ r
+    pub free_here : not b ≡ true → Some k ≡ free_slot t n
     unfolding free_from
     free_here l =
         let d : n - k ≡ suc (n - (k + 1)) = omega arith in
-        sym (e ∙ rw (d, refused b _ is l))
+        let g : r ≡ k = e ∙ rw (d, refused b _ is l) in
+        let z : k ≡ free_from t 0 n = sym g ∙ all in
+        rw (← z, ne_eqb k n (λ same. omega arith))
 
-  pub free_end : n ≤ k → k ≡ r
+  pub free_end : n ≤ k → None ≡ free_slot t n
   unfolding free_from
   free_end h =
       let d : n - k ≡ 0 = omega arith in
-      sym (e ∙ rw d)
-
-pub free_start : (t : List ℕ) (n : ℕ) → free_from t 0 n ≡ free_from t 0 (n - 0)
-free_start t n = ap (free_from t 0) (omega arith)
+      let g : r ≡ k = e ∙ rw d in
+      let z : k ≡ free_from t 0 n = sym g ∙ all in
+      rw (← z, eq-eqb k n (le_antisymm most h))
 
 -- ---- the slot found is free, and those before it are live
 
@@ -113,3 +105,11 @@ free_fits t k n e f h =
     let m : k ≤ n = rw f (omega (arith, free_most t 0 n)) in
     let d : k < n = ⊎_elim (λ (same : k ≡ n). absurd (h same)) (λ (below : k < n). below) (eq-or-lt_of_le m) in
     omega arith
+
+-- a slot that is found, of the n that the table has, ends within it
+pub free_inside : (t : List ℕ) (k n : ℕ) → n ≡ slot_count t → free_slot t n ≡ Some k → (k + 1) * 192 ≤ length t
+free_inside t k n h e = by (eqb (free_from t 0 n) n) refl e
+  where
+    by : (b : Bool) → eqb (free_from t 0 n) n ≡ b → cond b None (Some (free_from t 0 n)) ≡ Some k → (k + 1) * 192 ≤ length t
+    by true g f = absurd (none-some k f)
+    by false g f = free_fits t k n h (sym (same_Some _ _ f)) (λ same. eqb-false _ _ g (same_Some _ _ f ∙ same))

@@ -1,4 +1,3 @@
 pub mod Free
-pub mod Answers
 pub mod Starts
 pub mod Ends

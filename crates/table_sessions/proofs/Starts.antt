@@ -13,7 +13,9 @@ use Rattle.table_slots.specs.Slot.{slot_count, slot, live}
 use Rattle.table_slots.proofs.Places.{slot-written, slot-written_other}
 use Rattle.table_records.specs.Record.{Session, record_of, fits_record}
 use Rattle.table_records.proofs.Recorded.{recorded_length}
-use Rattle.table_sessions.specs.declared.Inserted.TheVariants.{Slot, NotInserted}
+use Rattle.std.specs.Prelude.{Result, Ok, Err}
+use Rattle.refusals.specs.declared.Refusal.{Refusal}
+use Rattle.refusals.specs.declared.Refusal.TheVariants as R
 use Rattle.table_sessions.specs.Session.{id_live, lowest_free, insert_answer, insert_table}
 use Rattle.table_sessions.proofs.Free.{free_fits, found_free}
 
@@ -25,7 +27,7 @@ pub record Started (x : Session) (t : List ℕ) (k : ℕ) : Type 0 where
   pub inside : (k + 1) * 192 ≤ length t
 
 by_tests : (x : Session) (t : List ℕ) (k : ℕ) (none fit known full : Bool) → fits_record x ≡ fit → id_live x.id t (slot_count t) ≡ known → eqb (lowest_free t) (slot_count t) ≡ full
-    → cond none (NotInserted 1) (cond (not fit) (NotInserted 8) (cond known (NotInserted 9) (cond full (NotInserted 10) (Slot (lowest_free t))))) ≡ Slot k → Started x t k
+    → ◌≡◌ {A = Result ℕ Refusal} (cond none (Err R.TableLength) (cond (not fit) (Err R.TextLength) (cond known (Err R.SessionIdLive) (cond full (Err R.NoFreeSlot) (Ok (lowest_free t)))))) (Ok k) → Started x t k
 by_tests x t k true fit known full a b r e = absurd (let z : ◌≡◌ {A = ℕ} 0 1 = cc in omega arith)
 by_tests x t k false false known full a b r e = absurd (let z : ◌≡◌ {A = ℕ} 0 1 = cc in omega arith)
 by_tests x t k false true true full a b r e = absurd (let z : ◌≡◌ {A = ℕ} 0 1 = cc in omega arith)
@@ -40,7 +42,7 @@ by_tests x t k false true false false a b r e =
       inside = free_fits t k (slot_count t) refl (sym d) (λ h. eqb-false _ _ r (d ∙ h));
     }
 
-module _ (x : Session) (t : List ℕ) (k : ℕ) (e : insert_answer x t ≡ Slot k) where
+module _ (x : Session) (t : List ℕ) (k : ℕ) (e : insert_answer x t ≡ Ok k) where
   pub started : Started x t k
   unfolding insert_answer
   started = by_tests x t k (eqb (slot_count t) 0) (fits_record x) (id_live x.id t (slot_count t)) (eqb (lowest_free t) (slot_count t)) refl refl refl e

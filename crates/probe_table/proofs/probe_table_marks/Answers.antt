@@ -1,17 +1,7 @@
--- `probe_table::probe_table_marks` meets its contract: refused where there is no room, else the marks stand in the whole of it.
+-- `probe_table::probe_table_marks` meets its contract: the marks stand in the whole of their room.
 use borrow.Author.Rules.{rules}
-use Rattle.probe_table.proofs.Answers.{refused, keeps, done, writes}
-use Rattle.probe_table.proofs.Handed.{marks_given}
+use Rattle.probe_table.proofs.Copied.{marks_copied}
 use Rattle.probe_table.proofs.probe_table_marks.Goals as goal
 
-pub returns-then-marks-ne64-clause-value : goal.returns-then-marks-ne64-clause-value
-returns-then-marks-ne64-clause-value c = search (rules, refused)
-
-pub returns-then-marks-ne64-clause-marks_after : goal.returns-then-marks-ne64-clause-marks_after
-returns-then-marks-ne64-clause-marks_after c = search (rules, keeps)
-
-pub returns-clause-value : goal.returns-clause-value
-returns-clause-value c = search (rules, done)
-
 pub returns-clause-marks_after : goal.returns-clause-marks_after
-returns-clause-marks_after c = search (rules, writes, marks_given)
+returns-clause-marks_after c = rw (← c.criteria_of.ensures) (search (rules, marks_copied))

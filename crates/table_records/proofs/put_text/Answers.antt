@@ -3,8 +3,8 @@ use Rattle.table_records.proofs.Fields.{kept_low, kept_short, kept_fits, zeros_f
 use borrow.Author.Rules.{rules}
 use Rattle.table_records.proofs.put_text.Goals as goal
 
-pub low-requires : goal.low-requires
-low-requires c = search (rules, kept_low)
+pub overflow_cast-t : goal.overflow_cast-t
+overflow_cast-t c = search (rules, kept_low)
 
 pub copy-requires : goal.copy-requires
 copy-requires c = search (rules, kept_fits)

@@ -1,5 +1,5 @@
 -- `table_sessions::search::id_live` meets its contract: none of the slots passed has the Acct-Session-Id.
-use Rattle.table_sessions.proofs.Free.{id_none, id_found, id_next, id_absent}
+use Rattle.table_sessions.proofs.Free.{id_none, id_found, id_next}
 use borrow.Author.Rules.{rules}
 use Rattle.table_sessions.proofs.search.id_live.Goals as goal
 
@@ -11,6 +11,3 @@ returns-then-has_id c = search (rules, id_found)
 
 pub loop-i-preserved : goal.loop-i-preserved
 loop-i-preserved c = search (rules, id_next)
-
-pub returns : goal.returns
-returns c = search (rules, id_absent)

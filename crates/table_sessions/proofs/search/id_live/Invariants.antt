@@ -1,12 +1,8 @@
 -- `table_sessions::search::id_live` meets its contract: none of the slots passed has the Acct-Session-Id.
-use Prim.Native.Nat.{◌≤◌, ◌-◌}
 use mathlib.Core.Path.{◌≡◌}
 use mathlib.Core.Bool.{false}
 use Rattle.table_sessions.specs.Session.{id_live}
 use Rattle.table_sessions.proofs.search.id_live.Given as goal
 
 abbrev pub invariant-loop-i : goal.invariant-loop-i
-invariant-loop-i l = (l.i ≤ l.n) × (false ≡ id_live l.id l.t l.i)
-
-abbrev pub decreases-loop-i : goal.decreases-loop-i
-decreases-loop-i l = l.n - l.i
+invariant-loop-i l = false ≡ id_live l.id l.t l.i
