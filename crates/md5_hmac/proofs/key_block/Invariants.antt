@@ -1,6 +1,5 @@
 -- `md5_hmac::key_block` meets its contract: after i turns the first i bytes of the key stand over the pad bytes.
 use mathlib.Core.Path.{◌≡◌}
-use Prim.Native.Nat.{◌≤◌}
 use lib.ListN.{length, take, replicate}
 use Rattle.md5_hmac.proofs.Keys.{padded}
 use Rattle.octet_numbers.specs.Runs.{write}
