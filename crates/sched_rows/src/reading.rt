@@ -65,14 +65,14 @@ fn stage_in(size: usize, kind: u32, place: usize, n: usize) -> sched_job::Stage
 
 // Job j, under a secret of so many bytes.
 pub fn job(
-    words: &[[u32; 4]],
-    kinds: &[[u32; 2]],
-    places: &[[usize; 2]],
-    marks: &[[u8; 64]],
+    words: &[[u32; 4]; 4],
+    kinds: &[[u32; 2]; 4],
+    places: &[[usize; 2]; 4],
+    marks: &[[u8; 64]; 4],
     size: usize,
     j: usize,
 ) -> sched_job::Job
-    requires { (length words.now ≡ 4) × (length kinds.now ≡ 4) × (length places.now ≡ 4) × (length marks.now ≡ 4) × (size ≤ 64) × (j < 4) }
+    requires { (size ≤ 64) × (j < 4) }
     ensures { result ≡ job_at (jobs_in size words.now kinds.now places.now marks.now) j }
 {
     let w = words[j];
@@ -92,14 +92,14 @@ pub fn job(
 
 // Whether job j is open.
 pub fn open_at(
-    words: &[[u32; 4]],
-    kinds: &[[u32; 2]],
-    places: &[[usize; 2]],
-    marks: &[[u8; 64]],
+    words: &[[u32; 4]; 4],
+    kinds: &[[u32; 2]; 4],
+    places: &[[usize; 2]; 4],
+    marks: &[[u8; 64]; 4],
     size: usize,
     j: usize,
 ) -> bool
-    requires { (length words.now ≡ 4) × (length kinds.now ≡ 4) × (length places.now ≡ 4) × (length marks.now ≡ 4) × (size ≤ 64) × (j < 4) }
+    requires { (size ≤ 64) × (j < 4) }
     ensures { result ≡ open_at (jobs_in size words.now kinds.now places.now marks.now) j }
 {
     let b = job(words, kinds, places, marks, size, j);
@@ -108,13 +108,13 @@ pub fn open_at(
 
 // The lowest free job, or 4.
 pub fn lowest_free(
-    words: &[[u32; 4]],
-    kinds: &[[u32; 2]],
-    places: &[[usize; 2]],
-    marks: &[[u8; 64]],
+    words: &[[u32; 4]; 4],
+    kinds: &[[u32; 2]; 4],
+    places: &[[usize; 2]; 4],
+    marks: &[[u8; 64]; 4],
     size: usize,
 ) -> usize
-    requires { (length words.now ≡ 4) × (length kinds.now ≡ 4) × (length places.now ≡ 4) × (length marks.now ≡ 4) × (size ≤ 64) }
+    requires { size ≤ 64 }
     ensures { (result ≡ lowest_free (open_at (jobs_in size words.now kinds.now places.now marks.now))) × (result ≤ 4) }
 {
     if !open_at(words, kinds, places, marks, size, 0) {

@@ -29,14 +29,14 @@ fn place_of(s: sched_job::Stage) -> usize
 
 // The rows of job j.
 pub fn put(
-    words: &mut [[u32; 4]],
-    kinds: &mut [[u32; 2]],
-    places: &mut [[usize; 2]],
-    marks: &mut [[u8; 64]],
+    words: &mut [[u32; 4]; 4],
+    kinds: &mut [[u32; 2]; 4],
+    places: &mut [[usize; 2]; 4],
+    marks: &mut [[u8; 64]; 4],
     j: usize,
     job: sched_job::Job,
 )
-    requires { (length words.old ≡ 4) × (length kinds.old ≡ 4) × (length places.old ≡ 4) × (length marks.old ≡ 4) × (j < 4) }
+    requires { j < 4 }
     ensures words_after { words.new ≡ set words.old j job.words }
     ensures kinds_after { kinds.new ≡ set kinds.old j (kind_row job) }
     ensures places_after { places.new ≡ set places.old j (place_row job) }
@@ -54,8 +54,8 @@ pub fn put(
 }
 
 // Job j back to slot 0, its marks cleared, where it is in Match or awaits Commit.
-fn restart(kinds: &[[u32; 2]], places: &mut [[usize; 2]], marks: &mut [[u8; 64]], j: usize)
-    requires { (length kinds.now ≡ 4) × (length places.old ≡ 4) × (length marks.old ≡ 4) × (j < 4) }
+fn restart(kinds: &[[u32; 2]; 4], places: &mut [[usize; 2]; 4], marks: &mut [[u8; 64]; 4], j: usize)
+    requires { j < 4 }
     ensures places_after { places.new ≡ restart_place kinds.now j places.old }
     ensures marks_after { marks.new ≡ restart_mark kinds.now j marks.old }
 {
@@ -68,8 +68,7 @@ fn restart(kinds: &[[u32; 2]], places: &mut [[usize; 2]], marks: &mut [[u8; 64]]
 }
 
 // All jobs in Match or awaiting Commit.
-pub fn restart_all(kinds: &[[u32; 2]], places: &mut [[usize; 2]], marks: &mut [[u8; 64]])
-    requires { (length kinds.now ≡ 4) × (length places.old ≡ 4) × (length marks.old ≡ 4) }
+pub fn restart_all(kinds: &[[u32; 2]; 4], places: &mut [[usize; 2]; 4], marks: &mut [[u8; 64]; 4])
     ensures places_after { places.new ≡ restart_places kinds.now places.old }
     ensures marks_after { marks.new ≡ restart_marks kinds.now marks.old }
 {
