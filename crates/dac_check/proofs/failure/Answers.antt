@@ -27,5 +27,5 @@ mismatch-requires-clause-q_value c = (search (rules, form_none), search (rules, 
 pub mismatch-requires-clause-kept : goal.mismatch-requires-clause-kept
 mismatch-requires-clause-kept c = kept_of _ _ (area_of_lem _ _ _ c.slice-s.ensures c.sized-n.ensures) _ _ _ c.survey-f.ensures.kept
 
-pub returns : goal.returns
-returns c = search (rules, attributes_fail)
+pub returns-then-not-f : goal.returns-then-not-f
+returns-then-not-f c = search (rules, attributes_fail)

@@ -18,8 +18,8 @@ bad_mac-requires c = search (rules, sixteen)
 pub returns-then-bad_mac : goal.returns-then-bad_mac
 returns-then-bad_mac c = search (rules, mac_fails)
 
-pub returns-then-authentic : goal.returns-then-authentic
-returns-then-authentic c = search (rules, none_fails)
+pub returns-then-not-authentic : goal.returns-then-not-authentic
+returns-then-not-authentic c = search (rules, authenticator_fails)
 
 pub returns : goal.returns
-returns c = search (rules, authenticator_fails)
+returns c = search (rules, none_fails)
