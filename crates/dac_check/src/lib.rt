@@ -63,6 +63,7 @@ fn authentic(p: &[u8], n: usize, auth: &[u8], secret: &[u8]) -> bool
 }
 
 // V3 to V6: neither V1 nor V2 applies, n is the reply's Length, and one pass told the rest of its attributes.
+#[tactic(auto, unfolding(crate::specs::ReplyCheck::failure_of, crate::specs::ReplyCheck::bad_request, crate::specs::ReplyCheck::wrong_code, crate::specs::ReplyCheck::wrong_identifier, crate::specs::ReplyCheck::wrong_authenticator,))]
 fn mismatch(
     secret: &[u8],
     q: &[u8],
@@ -93,6 +94,7 @@ fn mismatch(
 }
 
 // V1 to V6, the first failure. One pass over the reply's attributes serves V2 and V6.
+#[tactic(auto, unfolding(crate::specs::ReplyCheck::failure_of, crate::specs::ReplyCheck::bad_request, crate::specs::ReplyCheck::bad_reply))]
 fn failure(secret: &[u8], request: &[u8], reply: &[u8]) -> Result<(), Mismatch>
     ensures { MatchResult result (λ _. failure_of secret.now request.now reply.now ≡ None) (λ v. failure_of secret.now request.now reply.now ≡ Some v) }
 {
