@@ -63,7 +63,7 @@ fn authentic(p: &[u8], n: usize, auth: &[u8], secret: &[u8]) -> bool
 }
 
 // V3 to V6: neither V1 nor V2 applies, n is the reply's Length, and one pass told the rest of its attributes.
-#[tactic(auto, unfolding(crate::specs::ReplyCheck::failure_of, crate::specs::ReplyCheck::bad_request, crate::specs::ReplyCheck::wrong_code, crate::specs::ReplyCheck::wrong_identifier, crate::specs::ReplyCheck::wrong_authenticator,))]
+#[tactic(auto, unfolding(crate::specs::ReplyCheck::failure_of, crate::specs::ReplyCheck::bad_request, crate::specs::ReplyCheck::wrong_code, crate::specs::ReplyCheck::wrong_identifier, crate::specs::ReplyCheck::wrong_authenticator))]
 fn mismatch(
     secret: &[u8],
     q: &[u8],
