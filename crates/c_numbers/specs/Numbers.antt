@@ -1,14 +1,14 @@
 -- Answers as numbers for C: 0 acknowledged or done; 1 to 99 refused, document 01's R number; 100 + n discarded by Dn; 200 + n failed Vn;
 -- 401 to 599 NAK with that Error-Cause. Beside them go numbers which a refusal leaves as they were.
 -- Assumes nothing.
-use Rattle.std.specs.Prelude.{ℕ, ◌+◌, ◌^◌, ◌<◌, ℤ, pos}
+use Rattle.std.specs.Prelude.{ℕ, ◌+◌, ◌^◌, ◌<◌, ℤ, pos, Result, Ok, Err}
 use Rattle.rule_causes.specs.Causes.{error_cause}
 use Rattle.das_answer.specs.declared.Answer as D
 use Rattle.das_answer.specs.declared.Answer.TheVariants.{Refused, Discarded, Stale, Nak, Ack}
-use Rattle.dac_write.specs.declared.Written as W
-use Rattle.dac_write.specs.declared.Written.TheVariants.{Done, NotWritten}
-use Rattle.dac_check.specs.declared.Checked as C
-use Rattle.dac_check.specs.declared.Checked.TheVariants.{Right, Failed, NotChecked}
+use Rattle.refusals.specs.declared.Refusal.{Refusal}
+use Rattle.refusals.specs.Numbers.{refusal_number, mismatch_number}
+use Rattle.dac_check.specs.declared.Unfit.{Unfit}
+use Rattle.dac_check.specs.declared.Unfit.TheVariants as U
 
 -- what C is told of an answer
 pub record Told : Type 0 where
@@ -43,16 +43,16 @@ pub record Small (n : Told) : Type 0 where
   pub short : n.length < 2 ^ 32
 
 -- a request written: 0, and its length; or document 01's R number, and the length as it was
-unfoldable pub written_number : W.Written → ℕ
-written_number (Done n) = 0
-written_number (NotWritten r) = r
+unfoldable pub written_number : Result ℕ Refusal → ℕ
+written_number (Ok n) = 0
+written_number (Err r) = refusal_number r
 
-unfoldable pub written_length : W.Written → ℕ → ℕ
-written_length (Done n) old = n
-written_length (NotWritten r) old = old
+unfoldable pub written_length : Result ℕ Refusal → ℕ → ℕ
+written_length (Ok n) old = n
+written_length (Err r) old = old
 
 -- a reply checked: 0 right; 200 + n failed by Vn; else the R number
-unfoldable pub checked_number : C.Checked → ℕ
-checked_number Right = 0
-checked_number (Failed v) = 200 + v
-checked_number (NotChecked r) = r
+unfoldable pub checked_number : Result (Unit {0}) Unfit → ℕ
+checked_number (Ok u) = 0
+checked_number (Err (U.Mismatch v)) = 200 + mismatch_number v
+checked_number (Err (U.Refused r)) = refusal_number r

@@ -4,16 +4,12 @@
 ghost use Rattle.std.specs.Prelude.{◌≡◌};
 ghost use Rattle.dac_write.specs.Writer.{draft, write_answer, write_output};
 
+use refusals::Refusal;
+
 mod writing; // writing.rt: a request that is not refused
 
-// The length of the request written, or document 01's refusal number.
-#[derive(Clone, Copy)]
-pub enum Written {
-    Done(usize),
-    NotWritten(u8),
-}
-
-// Writes a request of these attributes, and type 80 after them if asked for.
+// Writes a request of these attributes, and type 80 after them if asked for, and returns its length. A refusal leaves out as it was.
+#[tactic(auto, unfolding(crate::specs::Writer::write_answer, crate::specs::Writer::write_output))]
 pub fn write_request(
     code: u32,
     identifier: u8,
@@ -21,13 +17,10 @@ pub fn write_request(
     add: bool,
     secret: &[u8],
     out: &mut [u8],
-) -> Written
+) -> Result<usize, Refusal>
     ensures value { result ≡ write_answer secret.now out.old (draft code identifier given.now «add») }
     ensures out_after { out.new ≡ write_output secret.now out.old (draft code identifier given.now «add») }
 {
-    let n = writing::refusal(code, given, add, secret, &*out);
-    if n != 0 {
-        return Written::NotWritten(n);
-    }
-    Written::Done(writing::put_request(code as u8, identifier, given, add, secret, out))
+    writing::refusal(code, given, add, secret, &*out)?;
+    Ok(writing::put_request(code as u8, identifier, given, add, secret, out))
 }

@@ -1,29 +1,25 @@
 // A request as it is written: why it is refused, and its bytes.
-ghost use Rattle.std.specs.Prelude.{◌≡◌, false, cond, not, ◌||◌, ℕ, ◌+◌, ◌≤◌, eqb, length};
+ghost use Rattle.std.specs.Prelude.{◌≡◌, false, cond, not, ◌||◌, ℕ, ◌+◌, ◌≤◌, eqb, length, Some, None, MatchResult};
 ghost use Rattle.octet_numbers.specs.Runs.{write};
 ghost use Rattle.attr_walk.specs.Attributes.{attributes, tiled, any, kind_is};
 ghost use Rattle.packet_auth.specs.Signing.{zeros, authenticator};
 ghost use Rattle.packet_write.specs.Rooms.{mac_room, with_mac};
 ghost use Rattle.dac_write.specs.Writer.{draft, bad_given, write_refusal, request_length, request_of};
 
+use refusals::Refusal;
+
 // R12's codes: Disconnect-Request or CoA-Request.
 fn request_code(code: u32) -> bool
     ensures { result ≡ eqb code 40 || eqb code 43 }
 {
-    if code == 40 {
-        return true;
-    }
-    code == 43
+    code == 40 || code == 43
 }
 
 // R13's most bytes: type 80 takes 18 of 4,076.
 fn most(add: bool) -> usize
     ensures { result ≡ cond «add» 4058 4076 }
 {
-    if add {
-        return 4058;
-    }
-    4076
+    if add { 4058 } else { 4076 }
 }
 
 // R13's first two parts, in one pass: the attributes do not fill the area, or one is of type 80.
@@ -39,43 +35,38 @@ fn unfit(s: &[u8]) -> bool
                 }
                 at = next;
             }
-            attr_walk::Step::End => {
-                return false;
-            }
-            attr_walk::Step::Bad => {
-                return true;
-            }
+            attr_walk::Step::End => return false,
+            attr_walk::Step::Bad => return true,
         }
     }
 }
 
 // R13. Code and identifier do not matter to it.
+#[tactic(auto, unfolding(crate::specs::Writer::bad_given))]
 fn bad_given(given: &[u8], add: bool) -> bool
     ensures { (code identifier : ℕ) → result ≡ bad_given (draft code identifier given.now «add») }
 {
-    if most(add) < given.len() {
-        return true;
-    }
-    unfit(given)
+    most(add) < given.len() || unfit(given)
 }
 
-// R2, R4, R12, R13, the first that applies; 0 where none does. The identifier does not matter to them.
-pub fn refusal(code: u32, given: &[u8], add: bool, secret: &[u8], out: &[u8]) -> u8
-    ensures { (identifier : ℕ) → result ≡ write_refusal secret.now out.now (draft code identifier given.now «add») }
+// R2, R4, R12 or R13, the lowest that applies. The identifier does not matter to them.
+#[tactic(auto, unfolding(crate::specs::Writer::write_refusal))]
+pub fn refusal(code: u32, given: &[u8], add: bool, secret: &[u8], out: &[u8]) -> Result<(), Refusal>
+    ensures { (identifier : ℕ) → MatchResult result (λ _. write_refusal secret.now out.now (draft code identifier given.now «add») ≡ None) (λ r. write_refusal secret.now out.now (draft code identifier given.now «add») ≡ Some r) }
 {
     if nas_settings::bad_secret(secret) {
-        return 2;
+        return Err(Refusal::SecretLength);
     }
     if out.len() < 4096 {
-        return 4;
+        return Err(Refusal::OutputRoom);
     }
-    if request_code(code) {
-        if bad_given(given, add) {
-            return 13;
-        }
-        return 0;
+    if !request_code(code) {
+        return Err(Refusal::RequestCode);
     }
-    12
+    if bad_given(given, add) {
+        return Err(Refusal::GivenAttributes);
+    }
+    Ok(())
 }
 
 // The signatures of a request of Length n, over zeros: the Message-Authenticator first.

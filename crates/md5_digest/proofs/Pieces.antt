@@ -87,16 +87,15 @@ pub held_here : (n : ℕ) (m s buf b : List ℕ) (q r : State) → ((i : ℕ) (l
 held_here n m s buf b q r then z held = then n m z held
 
 -- a piece in two: j bytes that end the block, and the rest, of which a call says what it holds
-pub held_across : (n j : ℕ) (m s buf b b' : List ℕ) (q r r' : State) → Held n m q buf → length buf ≡ 64 → j ≡ 64 - n % 64 → j ≤ length s
-    → b ≡ write buf (n % 64) (take j s) → r ≡ after q (length b / 64) b
-    → ((i : ℕ) (l : List ℕ) → i % 64 ≡ 0 → Held i l r b → Held (i + length (take (length s - j) (drop j s))) (l ++ take (length s - j) (drop j s)) r' b')
-    → Held (n + length s) (m ++ s) r' b'
-held_across n j m s buf b b' q r r' held long ej h e g then =
-    let lj : length (take j s) ≡ j = length-take-le j s h in
-    let all : take (length s - j) (drop j s) ≡ drop j s = take_all (length s - j) (drop j s) (simp length-drop (omega arith)) in
-    let full = held_full n m q buf held (take j s) b r e (lj ∙ ej) long g in
-    let more = then (n + length (take j s)) (m ++ take j s) (omega arith) full in
-    held_as _ _ _ _ r' b' (simp (all, length-drop) (omega arith)) (rw all (append_assoc m (take j s) (drop j s) ∙ rw take-append-drop)) more
+pub held_across : (n j : ℕ) (m s front rest buf b b' : List ℕ) (q r r' : State) → Held n m q buf → length buf ≡ 64 → j ≡ 64 - n % 64 → j ≤ length s
+    → front ≡ take j s → rest ≡ drop j s → b ≡ write buf (n % 64) front → r ≡ after q (length b / 64) b
+    → ((i : ℕ) (l : List ℕ) → i % 64 ≡ 0 → Held i l r b → Held (i + length rest) (l ++ rest) r' b') → Held (n + length s) (m ++ s) r' b'
+held_across n j m s front rest buf b b' q r r' held long ej h ef er e g then =
+    let lj : length front ≡ j = rw ef (length-take-le j s h) in
+    let lr : length rest ≡ length s - j = rw (er, length-drop) in
+    let full = held_full n m q buf held front b r e (lj ∙ ej) long g in
+    let more = then (n + length front) (m ++ front) (omega arith) full in
+    held_as _ _ _ _ r' b' (omega arith) (append_assoc m front rest ∙ rw (ef, er, take-append-drop)) more
 
 -- one piece after none
 pub held_whole : (s buf b d : List ℕ) (q₀ q : State) → q₀ ≡ initial → ((m : List ℕ) → Held 0 m q₀ buf → Held (0 + length s) (m ++ s) q b)

@@ -32,9 +32,10 @@ pub fn update(buf: &mut [u8], q: State, n: usize, s: &[u8]) -> State
         octet_copies::copy(buf, f, s);
         return q;
     }
-    octet_copies::copy(&mut *buf, f, &s[..j]);
+    let (front, rest) = s.split_at(j);
+    octet_copies::copy(&mut *buf, f, front);
     let r = md5_blocks::blocks(q, &*buf);
-    aligned(buf, r, &s[j..])
+    aligned(buf, r, rest)
 }
 
 // The digest of the n bytes held.

@@ -1,17 +1,18 @@
 -- The key's block: a block of the pad byte with the key's bytes XOR it written over its start, since zero XOR the pad byte is the pad byte.
 -- Assumes nothing.
-use mathlib.Core.Path.{◌≡◌, refl, ap, ◌∙◌}
+use mathlib.Core.Path.{◌≡◌, refl, sym, ap, ◌∙◌}
 use mathlib.Core.List.{List, [], ◌∷◌, ◌++◌, map}
 use mathlib.Core.Logic.{◌⊎◌, inl, inr, ⊎_elim}
 use Prim.Native.Nat.{ℕ, zero, suc, ◌+◌, ◌-◌, ◌<◌, ◌≤◌, zero-le, suc-le-suc}
 use native.Mathlib.Nat.{zero-add, sub-zero}
+use native.Mathlib.Numerals.{add-one}
 use native.Mathlib.Omega.{arith}
 use borrow.Author.Tests.{lt-ltb, le-ltb}
 use lib.Bits.{bit_xor, xor_zero_l}
 use lib.ListN.{length, get_or, set, take, drop, replicate, length-append, length-map, length-replicate}
+use lib.Seq.{take-suc, take_all, length-take-le}
 use Rattle.octet_numbers.specs.Runs.{write}
-use Rattle.octet_copies.proofs.Loops.{copy_none, copy_byte, copy_all}
-use Rattle.octet_numbers.proofs.Write.{write_eq}
+use Rattle.octet_numbers.proofs.Write.{write_nil, write_one, write-append, write_eq}
 use Rattle.md5_ops.specs.Md5.{md5}
 use Rattle.md5_ops.proofs.After.{length-md5}
 use Rattle.md5_hmac.specs.Hmac.{short_key, key_pad}
@@ -27,13 +28,16 @@ byte_padded c (x ∷ k) (suc i) h = byte_padded c k i (omega arith)
 
 -- the loop that writes them: none yet, one more, all
 pub key_none : (c : ℕ) (k l : List ℕ) → l ≡ write l 0 (take 0 (padded c k))
-key_none c k l = copy_none l 0 (padded c k)
+key_none c k l = write_nil l 0
 
 pub key_byte : (c : ℕ) (k r l : List ℕ) (i : ℕ) → r ≡ write l 0 (take i (padded c k)) → i < length k
     → set r i (bit_xor (get_or k i 0) c) ≡ write l 0 (take (i + 1) (padded c k))
 key_byte c k r l i e h =
-    let step = copy_byte r l 0 (padded c k) i e (rw length-map h) in
-    rw (← (byte_padded c k i h)) (rw zero-add at step)
+    let long : i < length (padded c k) = rw length-map h in
+    let at : 0 + length (take i (padded c k)) ≡ i = rw zero-add (length-take-le i (padded c k) (omega arith)) in
+    let w = write-append l 0 (take i (padded c k)) (bit_xor (get_or k i 0) c ∷ []) in
+    rw (e, add-one, take-suc (padded c k) i 0 long, byte_padded c k i h)
+    (write_one (write l 0 (take i (padded c k))) i (bit_xor (get_or k i 0) c) ∙ sym (rw at at w))
 
 map-append : (f : ℕ → ℕ) (k l : List ℕ) → map f (k ++ l) ≡ map f k ++ map f l
 map-append f [] l = refl
@@ -55,7 +59,7 @@ key_all c k r i e h l =
     map-replicate (λ x. bit_xor x c) (64 - length k) 0 ∙ ap (replicate (64 - length k)) (xor_zero_l c) in
     let long : length (padded c k) ≡ length k = length-map k (λ x. bit_xor x c) in
     let room : 0 + length (padded c k) ≤ length (replicate 64 c) = rw (length-replicate, zero-add, long) l in
-    let w = copy_all r (replicate 64 c) 0 (padded c k) i e (rw long h) ∙ write_eq (replicate 64 c) 0 (padded c k) room in
+    let w = e ∙ ap (write (replicate 64 c) 0) (take_all i (padded c k) (rw long h)) ∙ write_eq (replicate 64 c) 0 (padded c k) room in
     rw (map-append (λ x. bit_xor x c) k (replicate (64 - length k) 0), zeros)
     (w ∙ rw (zero-add, long, drop-replicate (length k) 64 c))
 

@@ -14,10 +14,8 @@ fn key_block(key: &[u8], c: u8) -> [u8; 64]
     ensures { result ≡ key_pad c key.now }
 {
     let mut r = [c; 64];
-    let mut i = 0;
-    while i < key.len() {
-        r[i] = key[i] ^ c;
-        i += 1;
+    for (i, x) in key.iter().enumerate() {
+        r[i] = *x ^ c;
     }
     r
 }

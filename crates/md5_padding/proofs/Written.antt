@@ -7,6 +7,8 @@ use native.Mathlib.Nat.{pow-suc, one-le-pow}
 use native.Mathlib.Omega.{arith}
 use lib.Arith.{mod-mul}
 use lib.ListN.{length, replicate, length-replicate}
+use Rattle.std.specs.Int.{byte_at, bytes_low_first}
+use Rattle.std.proofs.Math.Nat.{div-div-eq-div-mul}
 use Rattle.octet_numbers.specs.Runs.{write}
 use Rattle.octet_numbers.proofs.Write.{write_then, write_whole}
 use Rattle.md5_ops.specs.declared.State.{State}
@@ -21,18 +23,22 @@ low_bytes (suc k) v =
     let high : v % 256 ^ suc k / 256 ≡ v / 256 % 256 ^ k = omega arith in
     rw (low, high) (ap (λ (l : List ℕ). v % 256 ∷ l) (low_bytes k (v / 256)))
 
--- eight bytes are those of two words
-two_words : (v : ℕ) → le_bytes 4 (v % 4294967296) ++ le_bytes 4 (v / 4294967296) ≡ le_bytes 8 v
-two_words v =
-    let e : v / 256 / 256 / 256 / 256 ≡ v / 4294967296 = omega arith in
-    ap (λ (l : List ℕ). l ++ le_bytes 4 (v / 4294967296)) (low_bytes 4 v) ∙ ap (λ (h : ℕ). le_bytes 4 v ++ le_bytes 4 h) (sym e)
+-- the library's bytes of a number from byte i on, the low one first, are those of i divisions by 256
+byte_is : (i v : ℕ) → byte_at i v ≡ v / 256 ^ i % 256
+byte_is zero v = omega arith
+byte_is (suc i) v = refl
 
--- the count in bits, worked out without a product that could wrap, and written in two words
-pub count_law : (n : ℕ) (b b' buf : List ℕ) → b ≡ write buf 56 (le_bytes 4 (n % 0x2000000000000000 * 8 % 4294967296))
-    → b' ≡ write b 60 (le_bytes 4 (n % 0x2000000000000000 * 8 / 4294967296)) → b' ≡ write buf 56 (le_bytes 8 (n * 8))
-count_law n b b' buf e g =
-    let z : n % 0x2000000000000000 * 8 ≡ n * 8 % 256 ^ 8 = omega arith in
-    write_then b b' buf 56 60 _ _ e g refl ∙ ap (write buf 56) (two_words (n % 0x2000000000000000 * 8) ∙ ap (le_bytes 8) z ∙ low_bytes 8 (n * 8))
+from_byte : (k i v : ℕ) → bytes_low_first i k v ≡ le_bytes k (v / 256 ^ i)
+from_byte zero i v = refl
+from_byte (suc k) i v =
+    let next : v / 256 ^ suc i ≡ v / 256 ^ i / 256 = rw pow-suc (sym (div-div-eq-div-mul v (256 ^ i) 256)) in
+    rw (byte_is i v, from_byte k (suc i) v, next)
+
+-- the count in bits, of which eight bytes hold the low 64 bits
+pub count_bytes : (v : ℕ) → bytes_low_first 0 8 (v % 2 ^ 64) ≡ le_bytes 8 v
+count_bytes v =
+    let whole : v % 2 ^ 64 / 256 ^ 0 ≡ v % 2 ^ 64 = omega arith in
+    from_byte 8 0 (v % 2 ^ 64) ∙ rw whole (low_bytes 8 v)
 
 -- the four words, written one after the other over all of buf
 pub words_law : (q : State) (b b₁ b₂ b₃ buf : List ℕ) → b ≡ write buf 0 (le_bytes 4 q.a) → b₁ ≡ write b 4 (le_bytes 4 q.b) → b₂ ≡ write b₁ 8 (le_bytes 4 q.c)

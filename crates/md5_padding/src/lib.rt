@@ -8,21 +8,12 @@ ghost use Rattle.md5_ops.specs.Md5.{le_bytes, output};
 use md5_ops::State;
 
 // Writes v in four bytes, the low byte first.
+#[tactic(auto, using(octet_numbers::proofs::Write::copied_over))]
 fn put_le32(t: &mut [u8], at: usize, v: u32)
     requires { at + 4 ≤ length t.old }
     ensures { t.new ≡ write t.old at (le_bytes 4 v) }
 {
-    let v1 = v / 256;
-    let v2 = v1 / 256;
-    let v3 = v2 / 256;
-    octet_numbers::put4(
-        t,
-        at,
-        (v % 256) as u8,
-        (v1 % 256) as u8,
-        (v2 % 256) as u8,
-        (v3 % 256) as u8,
-    );
+    t[at..at + 4].copy_from_slice(&v.to_le_bytes());
 }
 
 // The count of n bytes in bits, at the end of the buffer.
@@ -30,9 +21,7 @@ fn put_count(buf: &mut [u8], n: usize)
     requires { length buf.old ≡ 64 }
     ensures { buf.new ≡ write buf.old 56 (le_bytes 8 (n * 8)) }
 {
-    let v = (n % 0x2000_0000_0000_0000) as u64 * 8;
-    put_le32(&mut *buf, 56, (v % 0x1_0000_0000) as u32);
-    put_le32(buf, 60, (v / 0x1_0000_0000) as u32);
+    buf[56..64].copy_from_slice(&n.wrapping_mul(8).to_le_bytes());
 }
 
 // The sixteen bytes of the words.
@@ -48,6 +37,7 @@ pub fn bytes_of(q: State) -> [u8; 16]
 }
 
 // Zeros from place at on, and the count of n bytes at the end of the buffer.
+#[tactic(auto, using(crate::proofs::Written::ended))]
 pub fn put_end(buf: &mut [u8], at: usize, n: usize)
     requires { (length buf.old ≡ 64) × (at ≤ 56) }
     ensures { buf.new ≡ write buf.old at (replicate (56 - at) 0 ++ le_bytes 8 (n * 8)) }
@@ -57,6 +47,7 @@ pub fn put_end(buf: &mut [u8], at: usize, n: usize)
 }
 
 // The byte after the message.
+#[tactic(auto, using(octet_numbers::proofs::Write::write_one))]
 pub fn put_first(buf: &mut [u8], at: usize)
     requires { at < length buf.old }
     ensures { buf.new ≡ write buf.old at (0x80 ∷ []) }

@@ -43,16 +43,15 @@ pub fn make(
     kinds: &mut [[u32; 2]; 4],
     places: &mut [[usize; 2]; 4],
     marks: &mut [[u8; 64]; 4],
-    kept: &mut [u8],
+    kept: &mut [u8; 64],
     size: &mut usize,
     nas_ip: &mut u32,
-    own: &mut [u8],
+    own: &mut [u8; 32],
     label: &mut usize,
     secret: &[u8],
     ip: u32,
     nas_id: &[u8],
 ) -> u32
-    requires { (length kept.old ≡ 64) × (length own.old ≡ 32) }
     ensures value { result ≡ make_refusal (settings secret.now ip nas_id.now) }
     ensures label_after { held words.new kinds.new places.new marks.new kept.new size.new nas_ip.new own.new label.new ≡ make_left (settings secret.now ip nas_id.now) (held words.old kinds.old places.old marks.old kept.old size.old nas_ip.old own.old label.old) }
 {

@@ -26,17 +26,17 @@ fn refusal(j: usize, store: &[u8]) -> u8
 
 // A job for a request that D1 to D3 leave: its rows, and its Length bytes to the front of the job's part.
 fn admit(
-    words: &mut [[u32; 4]],
-    kinds: &mut [[u32; 2]],
-    places: &mut [[usize; 2]],
-    marks: &mut [[u8; 64]],
+    words: &mut [[u32; 4]; 4],
+    kinds: &mut [[u32; 2]; 4],
+    places: &mut [[usize; 2]; 4],
+    marks: &mut [[u8; 64]; 4],
     j: usize,
     p: &[u8],
     n: usize,
     clock: u32,
     store: &mut [u8],
 )
-    requires { (length words.old ≡ 4) × (length kinds.old ≡ 4) × (length places.old ≡ 4) × (length marks.old ≡ 4) × (j < 4) × (n ≤ 4096) × (n ≤ length p.now) × (length store.old ≡ 16384) }
+    requires { (j < 4) × (n ≤ 4096) × (n ≤ length p.now) × (length store.old ≡ 16384) }
     ensures words_after { words.new ≡ set words.old j (first_job n clock).words }
     ensures kinds_after { kinds.new ≡ set kinds.old j (kind_row (first_job n clock)) }
     ensures places_after { places.new ≡ set places.old j (place_row (first_job n clock)) }
@@ -49,21 +49,20 @@ fn admit(
 
 // R5, R6, D1 to D3, or the lowest free job.
 pub fn open(
-    words: &mut [[u32; 4]],
-    kinds: &mut [[u32; 2]],
-    places: &mut [[usize; 2]],
-    marks: &mut [[u8; 64]],
-    secret: &[u8],
+    words: &mut [[u32; 4]; 4],
+    kinds: &mut [[u32; 2]; 4],
+    places: &mut [[usize; 2]; 4],
+    marks: &mut [[u8; 64]; 4],
+    secret: &[u8; 64],
     size: usize,
     nas_ip: u32,
-    nas_id: &[u8],
+    nas_id: &[u8; 32],
     label: usize,
     p: &[u8],
     clock: u32,
     store: &mut [u8],
     job: &mut u32,
 ) -> u32
-    requires { (length words.old ≡ 4) × (length kinds.old ≡ 4) × (length places.old ≡ 4) × (length marks.old ≡ 4) }
     ensures value { result ≡ number_by (open_called (scheduler_in (held words.old kinds.old places.old marks.old secret.now size nas_ip nas_id.now label)) p.now clock store.old).outcome }
     ensures label_after { held words.new kinds.new places.new marks.new secret.now size nas_ip nas_id.now label ≡ open_left (held words.old kinds.old places.old marks.old secret.now size nas_ip nas_id.now label) p.now clock store.old }
     ensures store_after { store.new ≡ open_store (scheduler_in (held words.old kinds.old places.old marks.old secret.now size nas_ip nas_id.now label)) p.now store.old }
@@ -87,18 +86,17 @@ pub fn open(
 
 // R7, or the job is free and nothing else changes.
 pub fn drop(
-    words: &mut [[u32; 4]],
-    kinds: &mut [[u32; 2]],
-    places: &mut [[usize; 2]],
-    marks: &mut [[u8; 64]],
-    secret: &[u8],
+    words: &mut [[u32; 4]; 4],
+    kinds: &mut [[u32; 2]; 4],
+    places: &mut [[usize; 2]; 4],
+    marks: &mut [[u8; 64]; 4],
+    secret: &[u8; 64],
     size: usize,
     nas_ip: u32,
-    nas_id: &[u8],
+    nas_id: &[u8; 32],
     label: usize,
     j: usize,
 ) -> u32
-    requires { (length words.old ≡ 4) × (length kinds.old ≡ 4) × (length places.old ≡ 4) × (length marks.old ≡ 4) }
     ensures value { result ≡ number_by (drop_called (scheduler_in (held words.old kinds.old places.old marks.old secret.now size nas_ip nas_id.now label)) j).outcome }
     ensures label_after { held words.new kinds.new places.new marks.new secret.now size nas_ip nas_id.now label ≡ drop_left (held words.old kinds.old places.old marks.old secret.now size nas_ip nas_id.now label) j }
 {

@@ -12,7 +12,7 @@ use Rattle.sched_state.specs.declared.Scheduler as D
 use Rattle.sched_state.specs.Scheduler.{Ours, job_at}
 use Rattle.sched_rows.specs.Layout.{kind_row, place_row, held_of, job_of, jobs_in, scheduler_in}
 use Rattle.sched_rows.proofs.Ranges.{inside}
-use Rattle.sched_rows.proofs.Rows.{job_back}
+use Rattle.sched_rows.proofs.JobRows.{job_back}
 
 module _ (z : ℕ) where
   jobs_back : (l : List B.Job) → length l ≡ 4 → ((k : ℕ) → JobOurs z (job_at l k))

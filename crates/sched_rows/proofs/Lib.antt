@@ -1,6 +1,7 @@
 pub mod Ranges
 pub mod ReadOurs
-pub mod Rows
+pub mod JobRows
 pub mod Restarts
+mod RestartLoop
 mod Lowest
 pub mod Back

@@ -1,38 +1,29 @@
--- The lowest free job: the jobs are asked from below, and the first that is not open is the one.
+-- The lowest free job: each job below it was asked and is open, and it is not; there is none where all four are open.
 -- Assumes nothing.
 use mathlib.Core.Path.{◌≡◌}
-use mathlib.Core.Bool.{Bool, true, false, not}
+use mathlib.Core.Bool.{Bool, true, false}
 use mathlib.Core.List.{List}
-use borrow.Author.Tests.{not-true, not-false}
-use Prim.Native.Nat.{ℕ}
+use native.Mathlib.Omega.{arith}
+use Prim.Native.Nat.{ℕ, zero, suc, ◌<◌}
+use Rattle.std.specs.Prelude.{Some, None}
 use Rattle.sched_job.specs.declared.Job.{Job}
 use Rattle.sched_job.specs.Job.{is_open}
 use Rattle.sched_state.specs.Scheduler.{job_at, open_at, lowest_free}
+use Rattle.sched_rows.specs.Lent.{below_four}
 
 pub open_read : (js : List Job) (j : ℕ) (x : Job) (b : Bool) → x ≡ job_at js j → b ≡ is_open x.stage → b ≡ open_at js j
 unfolding open_at
 open_read js j x b read is = rw (is, read)
 
-module _ (js : List Job) (a : Bool) (is-a : a ≡ open_at js 0) where
-  pub lowest_first : not a ≡ true → 0 ≡ lowest_free (open_at js)
+module _ (f : ℕ → Bool) where
+  pub lowest_here : (j : ℕ) → j < 4 → ((k : ℕ) → k < j → f k ≡ true) → f j ≡ false → Some j ≡ below_four (lowest_free f)
   unfolding lowest_free
-  lowest_first h = rw (← is-a, not-true a h)
+  lowest_here zero h below is = rw is
+  lowest_here (suc zero) h below is = rw (below 0 (omega arith), is)
+  lowest_here (suc (suc zero)) h below is = rw (below 0 (omega arith), below 1 (omega arith), is)
+  lowest_here (suc (suc (suc zero))) h below is = rw (below 0 (omega arith), below 1 (omega arith), below 2 (omega arith), is)
+  lowest_here (suc (suc (suc (suc j)))) h below is = absurd (omega arith)
 
-  module _ (open-a : not a ≡ false) (b : Bool) (is_b : b ≡ open_at js 1) where
-    pub lowest_second : not b ≡ true → 1 ≡ lowest_free (open_at js)
-    unfolding lowest_free
-    lowest_second h = rw (← is-a, not-false a open-a, ← is_b, not-true b h)
-
-    module _ (open-b : not b ≡ false) (c : Bool) (is_c : c ≡ open_at js 2) where
-      pub lowest_third : not c ≡ true → 2 ≡ lowest_free (open_at js)
-      unfolding lowest_free
-      lowest_third h = rw (← is-a, not-false a open-a, ← is_b, not-false b open-b, ← is_c, not-true c h)
-
-      module _ (open-c : not c ≡ false) (d : Bool) (is-d : d ≡ open_at js 3) where
-        pub lowest_fourth : not d ≡ true → 3 ≡ lowest_free (open_at js)
-        unfolding lowest_free
-        lowest_fourth h = rw (← is-a, not-false a open-a, ← is_b, not-false b open-b, ← is_c, not-false c open-c, ← is-d, not-true d h)
-
-        pub lowest_none : not d ≡ false → 4 ≡ lowest_free (open_at js)
-        unfolding lowest_free
-        lowest_none h = rw (← is-a, not-false a open-a, ← is_b, not-false b open-b, ← is_c, not-false c open-c, ← is-d, not-false d h)
+  pub lowest_nowhere : ((k : ℕ) → k < 4 → f k ≡ true) → None ≡ below_four (lowest_free f)
+  unfolding lowest_free
+  lowest_nowhere all = rw (all 0 (omega arith), all 1 (omega arith), all 2 (omega arith), all 3 (omega arith))

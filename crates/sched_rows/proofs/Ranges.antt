@@ -4,6 +4,9 @@ use mathlib.Core.Bool.{Bool, true, false}
 use mathlib.Core.Path.{◌≡◌, ◌∙◌, sym}
 use Prim.Native.Nat.{ℕ, ◌+◌, ◌≤◌, ◌<◌}
 use lib.Dec.{ltb}
+use Rattle.std.specs.Prelude.{max, min}
+use native.Mathlib.Omega.{arith}
+use Rattle.std.proofs.lemmas.Bool.Decides.{nat_tests}
 use borrow.Author.Tests.{lt-ltb, le-ltb, le-leb, lt-leb, eq-eqb, ne_eqb}
 use Rattle.packet_blocks.specs.Block.{block_count}
 use Rattle.sched_job.specs.declared.Stage.TheVariants.{Free, Hash, Check, Match}
@@ -21,6 +24,11 @@ module _ (low high n : ℕ) where
   pub inside : low ≤ n → n ≤ high → n ≡ between low high n
   unfolding between
   inside l h = rw (le-ltb n low l, le-ltb high n h)
+
+  -- a length as the library clamps it
+  pub clamped : (r : ℕ) → r ≡ max low (min n high) → low ≤ high → r ≡ between low high n
+  unfolding between
+  clamped r e fit = grind (arith, nat_tests)
 
 module _ (size n place : ℕ) where
   pub short_none : n < 20 → false ≡ block_in size n place

@@ -12,12 +12,12 @@ use lib.Seq.{get_or-set_other}
 use Rattle.table_slots.specs.Marks.{no_marks}
 use Rattle.sched_job.specs.declared.Job as B
 use Rattle.sched_job.specs.declared.Stage as S
-use Rattle.sched_job.specs.declared.Stage.TheVariants.{Free, Hash, Check, Match}
+use Rattle.sched_job.specs.declared.Stage.TheVariants.{Free, Hash, Check}
 use Rattle.sched_job.specs.Job.{restarted, restarted_at}
 use Rattle.sched_state.specs.Scheduler.{job_at}
 use Rattle.sched_rows.specs.Layout.{block_in, stage_in, job_of, jobs_in}
 use Rattle.sched_rows.specs.Left.{past_check, restart_place, restart_mark, restart_places, restart_marks}
-use Rattle.sched_rows.proofs.Rows.{four-set, at, row_same}
+use Rattle.sched_rows.proofs.JobRows.{four-set, at, row_same}
 
 -- ---- as the code does it
 

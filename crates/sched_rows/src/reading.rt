@@ -1,32 +1,22 @@
 // A job from its rows, whatever they are: one that is none of ours is free.
-ghost use Rattle.std.specs.Prelude.{◌≡◌, ◌≤◌, ◌<◌, length};
+ghost use Rattle.std.specs.Prelude.{◌≡◌, ◌≤◌, ◌<◌};
 ghost use Rattle.sched_state.specs.Scheduler.{job_at, open_at, lowest_free};
-ghost use Rattle.sched_rows.specs.Layout.{between, secret_in, nas_id_in, block_in, stage_in, jobs_in};
+ghost use Rattle.sched_rows.specs.Layout.{secret_in, nas_id_in, block_in, stage_in};
+ghost use Rattle.sched_rows.specs.Lent.{jobs_of, below_four};
 
-// n brought between low and high.
-fn between(low: usize, high: usize, n: usize) -> usize
-    ensures { result ≡ between low high n }
-{
-    if n < low {
-        return low;
-    }
-    if high < n {
-        return high;
-    }
-    n
-}
+use crate::Rows;
 
 // The length of the secret, and that of the NAS-Identifier.
 pub fn secret_in(n: usize) -> usize
     ensures { (result ≡ secret_in n) × (result ≤ 64) }
 {
-    between(1, 64, n)
+    n.clamp(1, 64)
 }
 
 pub fn nas_id_in(n: usize) -> usize
     ensures { (result ≡ nas_id_in n) × (result ≤ 32) }
 {
-    between(1, 32, n)
+    n.clamp(1, 32)
 }
 
 // Whether block `place` is one of the message of Length n and the secret.
@@ -63,71 +53,45 @@ fn stage_in(size: usize, kind: u32, place: usize, n: usize) -> sched_job::Stage
     sched_job::Stage::Free
 }
 
-// Job j, under a secret of so many bytes.
-pub fn job(
-    words: &[[u32; 4]],
-    kinds: &[[u32; 2]],
-    places: &[[usize; 2]],
-    marks: &[[u8; 64]],
-    size: usize,
-    j: usize,
-) -> sched_job::Job
-    requires { (length words.now ≡ 4) × (length kinds.now ≡ 4) × (length places.now ≡ 4) × (length marks.now ≡ 4) × (size ≤ 64) × (j < 4) }
-    ensures { result ≡ job_at (jobs_in size words.now kinds.now places.now marks.now) j }
-{
-    let w = words[j];
-    let m = marks[j];
-    let k = kinds[j][0];
-    let clock = kinds[j][1];
-    let p = places[j][0];
-    let n = places[j][1];
-    sched_job::Job {
-        stage: stage_in(size, k, p, n),
-        words: w,
-        marks: m,
-        length: n,
-        clock,
+impl Rows<'_> {
+    // Job j, under a secret of so many bytes.
+    pub fn job(&self, size: usize, j: usize) -> sched_job::Job
+        requires { (size ≤ 64) × (j < 4) }
+        ensures { result ≡ job_at (jobs_of size self.now) j }
+    {
+        let words = &*self.words;
+        let kinds = &*self.kinds;
+        let places = &*self.places;
+        let marks = &*self.marks;
+        let n = places[j][1];
+        sched_job::Job {
+            stage: stage_in(size, kinds[j][0], places[j][0], n),
+            words: words[j],
+            marks: marks[j],
+            length: n,
+            clock: kinds[j][1],
+        }
     }
-}
 
-// Whether job j is open.
-pub fn open_at(
-    words: &[[u32; 4]],
-    kinds: &[[u32; 2]],
-    places: &[[usize; 2]],
-    marks: &[[u8; 64]],
-    size: usize,
-    j: usize,
-) -> bool
-    requires { (length words.now ≡ 4) × (length kinds.now ≡ 4) × (length places.now ≡ 4) × (length marks.now ≡ 4) × (size ≤ 64) × (j < 4) }
-    ensures { result ≡ open_at (jobs_in size words.now kinds.now places.now marks.now) j }
-{
-    let b = job(words, kinds, places, marks, size, j);
-    b.is_open()
-}
+    // Whether job j is open.
+    pub fn open_at(&self, size: usize, j: usize) -> bool
+        requires { (size ≤ 64) × (j < 4) }
+        ensures { result ≡ open_at (jobs_of size self.now) j }
+    {
+        let b = self.job(size, j);
+        b.is_open()
+    }
 
-// The lowest free job, or 4.
-pub fn lowest_free(
-    words: &[[u32; 4]],
-    kinds: &[[u32; 2]],
-    places: &[[usize; 2]],
-    marks: &[[u8; 64]],
-    size: usize,
-) -> usize
-    requires { (length words.now ≡ 4) × (length kinds.now ≡ 4) × (length places.now ≡ 4) × (length marks.now ≡ 4) × (size ≤ 64) }
-    ensures { (result ≡ lowest_free (open_at (jobs_in size words.now kinds.now places.now marks.now))) × (result ≤ 4) }
-{
-    if !open_at(words, kinds, places, marks, size, 0) {
-        return 0;
+    // The lowest free job.
+    pub fn lowest_free(&self, size: usize) -> Option<usize>
+        requires { size ≤ 64 }
+        ensures { result ≡ below_four (lowest_free (open_at (jobs_of size self.now))) }
+    {
+        for j in 0..4 {
+            if !self.open_at(size, j) {
+                return Some(j);
+            }
+        }
+        None
     }
-    if !open_at(words, kinds, places, marks, size, 1) {
-        return 1;
-    }
-    if !open_at(words, kinds, places, marks, size, 2) {
-        return 2;
-    }
-    if !open_at(words, kinds, places, marks, size, 3) {
-        return 3;
-    }
-    4
 }

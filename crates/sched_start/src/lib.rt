@@ -11,14 +11,14 @@ ghost use Rattle.c_told.specs.Told.{number_by, place_by};
 
 // R1, R8, R9, R10, or a session in the lowest free slot.
 pub fn start(
-    words: &[[u32; 4]],
-    kinds: &[[u32; 2]],
-    places: &mut [[usize; 2]],
-    marks: &mut [[u8; 64]],
-    secret: &[u8],
+    words: &[[u32; 4]; 4],
+    kinds: &[[u32; 2]; 4],
+    places: &mut [[usize; 2]; 4],
+    marks: &mut [[u8; 64]; 4],
+    secret: &[u8; 64],
     size: usize,
     nas_ip: u32,
-    nas_id: &[u8],
+    nas_id: &[u8; 32],
     label: usize,
     t: &mut [u8],
     port: u32,
@@ -31,7 +31,6 @@ pub fn start(
     filter: &[u8],
     slot: &mut u32,
 ) -> u32
-    requires { (length kinds.now ≡ 4) × (length places.old ≡ 4) × (length marks.old ≡ 4) }
     ensures value { result ≡ number_by (start_called (scheduler_in (held words.now kinds.now places.old marks.old secret.now size nas_ip nas_id.now label)) (session_of port framed timeout idle user.now id.now station.now filter.now) t.old).outcome }
     ensures label_after { held words.now kinds.now places.new marks.new secret.now size nas_ip nas_id.now label ≡ start_left (held words.now kinds.now places.old marks.old secret.now size nas_ip nas_id.now label) (session_of port framed timeout idle user.now id.now station.now filter.now) t.old }
     ensures t_after { t.new ≡ insert_table (session_of port framed timeout idle user.now id.now station.now filter.now) t.old }
@@ -49,19 +48,18 @@ pub fn start(
 
 // R1, R11, or the session of slot k is gone.
 pub fn end(
-    words: &[[u32; 4]],
-    kinds: &[[u32; 2]],
-    places: &mut [[usize; 2]],
-    marks: &mut [[u8; 64]],
-    secret: &[u8],
+    words: &[[u32; 4]; 4],
+    kinds: &[[u32; 2]; 4],
+    places: &mut [[usize; 2]; 4],
+    marks: &mut [[u8; 64]; 4],
+    secret: &[u8; 64],
     size: usize,
     nas_ip: u32,
-    nas_id: &[u8],
+    nas_id: &[u8; 32],
     label: usize,
     t: &mut [u8],
     k: usize,
 ) -> u32
-    requires { (length kinds.now ≡ 4) × (length places.old ≡ 4) × (length marks.old ≡ 4) }
     ensures value { result ≡ number_by (end_called (scheduler_in (held words.now kinds.now places.old marks.old secret.now size nas_ip nas_id.now label)) k t.old).outcome }
     ensures label_after { held words.now kinds.now places.new marks.new secret.now size nas_ip nas_id.now label ≡ end_left (held words.now kinds.now places.old marks.old secret.now size nas_ip nas_id.now label) k t.old }
     ensures t_after { t.new ≡ remove_table k t.old }

@@ -14,17 +14,17 @@ ghost use Rattle.c_told.specs.Told.{told_by};
 
 // R1, R4, R5, R7, the lowest that applies; 0 where none does.
 fn refusal(
-    words: &[[u32; 4]],
-    kinds: &[[u32; 2]],
-    places: &[[usize; 2]],
-    marks: &[[u8; 64]],
+    words: &[[u32; 4]; 4],
+    kinds: &[[u32; 2]; 4],
+    places: &[[usize; 2]; 4],
+    marks: &[[u8; 64]; 4],
     size: usize,
     j: usize,
     t: &[u8],
     reply: &[u8],
     store: &[u8],
 ) -> u8
-    requires { (length words.now ≡ 4) × (length kinds.now ≡ 4) × (length places.now ≡ 4) × (length marks.now ≡ 4) × (size ≤ 64) }
+    requires { size ≤ 64 }
     ensures { result ≡ step_refusal (open_at (jobs_in size words.now kinds.now places.now marks.now)) (length store.now) j t.now reply.now }
 {
     if table_slots::slot_count(t) == 0 {
@@ -47,14 +47,14 @@ fn refusal(
 
 // R1, R4, R5, R7, or one step of job j.
 pub fn step(
-    words: &mut [[u32; 4]],
-    kinds: &mut [[u32; 2]],
-    places: &mut [[usize; 2]],
-    marks: &mut [[u8; 64]],
-    secret: &[u8],
+    words: &mut [[u32; 4]; 4],
+    kinds: &mut [[u32; 2]; 4],
+    places: &mut [[usize; 2]; 4],
+    marks: &mut [[u8; 64]; 4],
+    secret: &[u8; 64],
     size: usize,
     nas_ip: u32,
-    nas_id: &[u8],
+    nas_id: &[u8; 32],
     label: usize,
     j: usize,
     t: &mut [u8],
@@ -65,7 +65,6 @@ pub fn step(
     skew: &mut i64,
     stamped: &mut u32,
 ) -> u32
-    requires { (length words.old ≡ 4) × (length kinds.old ≡ 4) × (length places.old ≡ 4) × (length marks.old ≡ 4) × (length secret.now ≡ 64) × (length nas_id.now ≡ 32) }
     ensures stamped_after { told result changed.new bytes.new skew.new stamped.new ≡ told_by (step_called (scheduler_in (held words.old kinds.old places.old marks.old secret.now size nas_ip nas_id.now label)) j t.old reply.old store.now).outcome (told 0 changed.old bytes.old skew.old stamped.old) }
     ensures label_after { held words.new kinds.new places.new marks.new secret.now size nas_ip nas_id.now label ≡ step_left (held words.old kinds.old places.old marks.old secret.now size nas_ip nas_id.now label) j t.old reply.old store.now }
     ensures t_after { t.new ≡ step_table (scheduler_in (held words.old kinds.old places.old marks.old secret.now size nas_ip nas_id.now label)) j t.old reply.old store.now }

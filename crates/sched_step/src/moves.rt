@@ -34,14 +34,14 @@ fn acked(e: Ending) -> bool
 
 // The rows after job j was moved.
 fn settled(
-    words: &mut [[u32; 4]],
-    kinds: &mut [[u32; 2]],
-    places: &mut [[usize; 2]],
-    marks: &mut [[u8; 64]],
+    words: &mut [[u32; 4]; 4],
+    kinds: &mut [[u32; 2]; 4],
+    places: &mut [[usize; 2]; 4],
+    marks: &mut [[u8; 64]; 4],
     j: usize,
     m: Moved,
 )
-    requires { (length words.old ≡ 4) × (length kinds.old ≡ 4) × (length places.old ≡ 4) × (length marks.old ≡ 4) × (j < 4) }
+    requires { j < 4 }
     ensures words_after { words.new ≡ set words.old j m.job.words }
     ensures kinds_after { kinds.new ≡ set kinds.old j (kind_row m.job) }
     ensures places_after { places.new ≡ places_after m j kinds.old places.old }
@@ -58,10 +58,10 @@ fn settled(
 
 // Job j moved by its part q of the store, the table and what the scheduler was made with.
 fn worked(
-    words: &[[u32; 4]],
-    kinds: &[[u32; 2]],
-    places: &[[usize; 2]],
-    marks: &[[u8; 64]],
+    words: &[[u32; 4]; 4],
+    kinds: &[[u32; 2]; 4],
+    places: &[[usize; 2]; 4],
+    marks: &[[u8; 64]; 4],
     secret: &[u8],
     nas_ip: u32,
     nas_id: &[u8],
@@ -70,7 +70,7 @@ fn worked(
     t: &mut [u8],
     reply: &mut [u8],
 ) -> Moved
-    requires { (length words.now ≡ 4) × (length kinds.now ≡ 4) × (length places.now ≡ 4) × (length marks.now ≡ 4) × (length secret.now ≤ 64) × (j < 4) × (length q.now ≡ 4096) × (4096 ≤ length reply.old) }
+    requires { (length secret.now ≤ 64) × (j < 4) × (length q.now ≡ 4096) × (4096 ≤ length reply.old) }
     ensures value { result ≡ rows_moved secret.now nas_ip nas_id.now words.now kinds.now places.now marks.now j q.now t.old }
     ensures t_after { t.new ≡ moved_table (settings secret.now nas_ip nas_id.now) (job_at (jobs_in (length secret.now) words.now kinds.now places.now marks.now) j) q.now t.old }
     ensures reply_after { reply.new ≡ reply_after secret.now q.now reply.old result.ending }
@@ -81,10 +81,10 @@ fn worked(
 
 // One step of job j.
 pub(crate) fn stepped(
-    words: &mut [[u32; 4]],
-    kinds: &mut [[u32; 2]],
-    places: &mut [[usize; 2]],
-    marks: &mut [[u8; 64]],
+    words: &mut [[u32; 4]; 4],
+    kinds: &mut [[u32; 2]; 4],
+    places: &mut [[usize; 2]; 4],
+    marks: &mut [[u8; 64]; 4],
     secret: &[u8],
     nas_ip: u32,
     nas_id: &[u8],
@@ -93,7 +93,7 @@ pub(crate) fn stepped(
     reply: &mut [u8],
     store: &[u8],
 ) -> Ending
-    requires { (length words.old ≡ 4) × (length kinds.old ≡ 4) × (length places.old ≡ 4) × (length marks.old ≡ 4) × (length secret.now ≤ 64) × (j < 4) × (4096 ≤ length reply.old) × (length store.now ≡ 16384) }
+    requires { (length secret.now ≤ 64) × (j < 4) × (4096 ≤ length reply.old) × (length store.now ≡ 16384) }
     ensures value { result ≡ (rows_moved secret.now nas_ip nas_id.now words.old kinds.old places.old marks.old j (part_of j store.now) t.old).ending }
     ensures words_after { words.new ≡ set words.old j (rows_moved secret.now nas_ip nas_id.now words.old kinds.old places.old marks.old j (part_of j store.now) t.old).job.words }
     ensures kinds_after { kinds.new ≡ set kinds.old j (kind_row (rows_moved secret.now nas_ip nas_id.now words.old kinds.old places.old marks.old j (part_of j store.now) t.old).job) }

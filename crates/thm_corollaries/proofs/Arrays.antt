@@ -18,7 +18,7 @@ use Rattle.sched_job.specs.Job.{free_job, restarted, restarted_at, Placed, JobOu
 use Rattle.sched_state.specs.Scheduler.{with_job, restart_all, Ours}
 use Rattle.sched_rows.specs.Layout.{Held, kind_row, place_row, secret_in, jobs_in, scheduler_in}
 use Rattle.sched_rows.specs.Left.{put_job, restart_held}
-use Rattle.sched_rows.proofs.Rows.{put_in}
+use Rattle.sched_rows.proofs.JobRows.{put_in}
 use Rattle.sched_rows.proofs.Restarts.{four_long, all-restarted, length_places, length_marks}
 
 -- the arrays have the sizes of C's types

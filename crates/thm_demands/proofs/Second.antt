@@ -9,6 +9,7 @@ use lib.IntN.{ℤ}
 use lib.ListN.{length, get_or, replicate}
 use mir.Syntax.{w8}
 use mir.Val.{Fits}
+use Rattle.std.specs.Prelude.{None, Ok}
 use Rattle.octet_numbers.specs.Runs.{write}
 use Rattle.table_slots.specs.Slot.{slot_count, slot}
 use Rattle.table_change.specs.Change.{changed}
@@ -26,7 +27,6 @@ use Rattle.das_answer.specs.declared.Answer.TheVariants as A
 use Rattle.das_answer.specs.Replies.{reply_as}
 use Rattle.das_handle.specs.Handle.{table_as, handle_answer, handle_table, handle_reply}
 use Rattle.das_handle.proofs.Bounds.{reply_bound}
-use Rattle.dac_write.specs.declared.Written.TheVariants.{Done}
 use Rattle.dac_write.specs.Writer.{Draft, write_refusal, request_of, write_answer, write_output}
 use Rattle.thm_exchange.proofs.Requests.{written_form, written-signed, written-maced}
 use Rattle.thm_exchange.proofs.Outputs.{length_request}
@@ -113,8 +113,8 @@ judging g t b p clock =
       alters = λ m skew n e code k l h. alters g t b p clock m n skew e k l h code;
     }
 
-written : (secret out : List ℕ) (d : Draft) → write_refusal secret out d ≡ 0
-    → (write_answer secret out d ≡ Done (length (request_of secret d))) × (write_output secret out d ≡ write out 0 (request_of secret d))
+written : (secret out : List ℕ) (d : Draft) → write_refusal secret out d ≡ None
+    → (write_answer secret out d ≡ Ok (length (request_of secret d))) × (write_output secret out d ≡ write out 0 (request_of secret d))
 unfolding write_answer write_output
 written secret out d h = (rw (h, length_request secret d), rw h)
 

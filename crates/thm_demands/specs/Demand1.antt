@@ -4,7 +4,7 @@
 -- was lent then equals what was handed in. A step is lent the store to read alone. That no call faults or hangs is the prover's own claim for every
 -- function of the library.
 -- Assumes nothing.
-use Rattle.std.specs.Prelude.{true, false, List, [], ◌∷◌, ◌≡◌, ℕ, ℤ, length}
+use Rattle.std.specs.Prelude.{true, false, List, [], ◌∷◌, ◌≡◌, ℕ, ℤ, length, Some, Err}
 use Rattle.octet_numbers.specs.Runs.{member}
 use Rattle.table_records.specs.Record.{Session}
 use Rattle.table_sessions.specs.Session.{insert_answer, insert_table, remove_answer, remove_table}
@@ -19,8 +19,10 @@ use Rattle.das_answer.specs.declared.Answer.{Answer}
 use Rattle.das_answer.specs.declared.Answer.TheVariants as A
 use Rattle.das_handle.specs.Refusals.{refusal_of}
 use Rattle.das_handle.specs.Handle.{handle_answer, handle_table, handle_reply}
-use Rattle.dac_write.specs.declared.Written.TheVariants.{NotWritten}
-use Rattle.dac_check.specs.declared.Checked.TheVariants.{NotChecked}
+use Rattle.refusals.specs.declared.Refusal.{Refusal}
+use Rattle.refusals.specs.declared.Refusal.TheVariants as R
+use Rattle.refusals.specs.Numbers.{refusal_number}
+use Rattle.dac_check.specs.declared.Unfit.TheVariants as U
 use Rattle.dac_write.specs.Writer.{Draft, write_refusal, write_answer, write_output}
 use Rattle.dac_check.specs.ReplyCheck.{check_answer}
 use Rattle.sched_reread.specs.Reread.{holds_passed}
@@ -57,11 +59,12 @@ pub record Handling (g : Settings) (t b p : List ℕ) (clock : ℕ) : Type 0 whe
 
 -- the writer and the reply check
 pub record Exchanging (secret out : List ℕ) (d : Draft) (q r : List ℕ) : Type 0 where
-  pub write_refused : (write_refusal secret out d ≡ 0 → ⊥) → write_answer secret out d ≡ NotWritten (write_refusal secret out d)
-  pub write_refusals : (n : ℕ) → write_answer secret out d ≡ NotWritten n
-      → (member n (2 ∷ 4 ∷ 12 ∷ 13 ∷ []) ≡ true) × (n ≡ write_refusal secret out d) × (write_output secret out d ≡ out)
-  pub check_refused : bad_secret secret ≡ true → check_answer secret q r ≡ NotChecked 2
-  pub check_refusals : (n : ℕ) → check_answer secret q r ≡ NotChecked n → (n ≡ 2) × (bad_secret secret ≡ true)
+  pub write_refused : (n : Refusal) → write_refusal secret out d ≡ Some n → write_answer secret out d ≡ Err n
+  pub write_refusals : (n : Refusal) → write_answer secret out d ≡ Err n
+      → (member (refusal_number n) (2 ∷ 4 ∷ 12 ∷ 13 ∷ []) ≡ true) × (write_refusal secret out d ≡ Some n) × (write_output secret out d ≡ out)
+  pub check_refused : bad_secret secret ≡ true → check_answer secret q r ≡ Err (U.Refused R.SecretLength)
+  pub check_refusals : (n : Refusal) → check_answer secret q r ≡ Err (U.Refused n)
+      → (n ≡ R.SecretLength) × (refusal_number n ≡ 2) × (bad_secret secret ≡ true)
 
 -- what a step of job j comes to before any session is changed, by the job's part q of the store: in Check its verdict; in Match and Commit D1, where the store
 -- read again no longer holds

@@ -3,7 +3,7 @@
 -- g is what the gate is set up with, t the table, b the reply buffer, p the request, clock the clock reading. The code's contract is these
 -- definitions.
 -- Assumes nothing.
-use Rattle.std.specs.Prelude.{true, false, cond, List, ◌++◌, ◌≡◌, ℕ, ◌+◌, ◌≤◌, ◌<◌, ℤ, length, get_or, replicate, Some, None}
+use Rattle.std.specs.Prelude.{true, false, cond, List, ◌++◌, ◌≡◌, ℕ, ◌+◌, ◌≤◌, ◌<◌, ℤ, length, get_or, replicate, Some, None, Ok}
 use Rattle.octet_numbers.specs.Numbers.{be}
 use Rattle.octet_numbers.specs.Runs.{write}
 use Rattle.attr_walk.specs.declared.Attribute.{Attribute}
@@ -27,9 +27,7 @@ use Rattle.das_effects.specs.Changes.{alteration_of, rates_named}
 use Rattle.das_answer.specs.declared.Answer.TheVariants.{Refused, Nak, Ack}
 use Rattle.das_handle.specs.Refusals.{refusal_of}
 use Rattle.das_handle.specs.Handle.{answer_of, handle_answer, handle_table, handle_reply}
-use Rattle.dac_write.specs.declared.Written.TheVariants.{Done}
 use Rattle.dac_write.specs.Writer.{Draft, write_refusal, request_of, write_answer, write_output}
-use Rattle.dac_check.specs.declared.Checked.TheVariants.{Right}
 use Rattle.dac_check.specs.ReplyCheck.{check_answer}
 use Rattle.das_answer.specs.Replied.{silent, reply_size}
 
@@ -68,7 +66,7 @@ pub record Carries (secret p r : List ℕ) (c : Cause) : Type 0 where
   -- the first State, Error-Cause on NAK, every Proxy-State in order, and type 80 if the request had one
   pub body : area_of r ≡ (state_part (area_of p) ++ cause_part c ++ proxy_part (area_of p)) ++ mac_valued (maced p) (reply_mac secret p c)
   -- it passes our reply check
-  pub passes : check_answer secret p r ≡ Right
+  pub passes : check_answer secret p r ≡ Ok tt
 
 -- one request, handled whole
 pub record Judging (g : Settings) (t b p : List ℕ) (clock : ℕ) : Type 0 where
@@ -99,7 +97,7 @@ pub record Judging (g : Settings) (t b p : List ℕ) (clock : ℕ) : Type 0 wher
 pub record Demand2 : Type 0 where
   pub judging : (g : Settings) (t b p : List ℕ) (clock : ℕ) → Judging g t b p clock
   -- a request that our writer does not refuse stands at the output's start, its length is the one told, and it never meets D1 to D5 under the same secret
-  pub written : (secret out : List ℕ) (d : Draft) → write_refusal secret out d ≡ 0
-      → (write_answer secret out d ≡ Done (length (request_of secret d))) × (write_output secret out d ≡ write out 0 (request_of secret d))
-  pub accepted : (secret out : List ℕ) (d : Draft) → write_refusal secret out d ≡ 0
+  pub written : (secret out : List ℕ) (d : Draft) → write_refusal secret out d ≡ None
+      → (write_answer secret out d ≡ Ok (length (request_of secret d))) × (write_output secret out d ≡ write out 0 (request_of secret d))
+  pub accepted : (secret out : List ℕ) (d : Draft) → write_refusal secret out d ≡ None
       → (form_of (request_of secret d) ≡ 0) × (signed_by secret (request_of secret d) ≡ true) × (bad_mac zeros secret (request_of secret d) ≡ false)

@@ -7,6 +7,7 @@ use Prim.Native.Nat.{ℕ, ◌+◌, ◌≤◌}
 use native.Mathlib.Omega.{arith}
 use borrow.Author.Tests.{eq-eqb, ne_eqb}
 use lib.Dec.{eqb}
+use Rattle.std.specs.Prelude.{None}
 use Rattle.octet_numbers.specs.Runs.{equal_bytes}
 use Rattle.packet_auth.specs.Signing.{authenticator}
 use Rattle.rule_causes.specs.declared.Cause.{Cause}
@@ -53,7 +54,7 @@ module _ (secret q : List ℕ) (n : ℕ) (c : Cause) (sized : Sized q n) (short 
       rw (reply_is secret q c)
       (packet_mac_lem secret (auth_of q) (body_of q c) (maced q) code (identifier_of q) (reply_length q c) (body_plain q c) (length_auth q n sized) (length_is secret q c) short)
 
-  pub reply_passes : form_of q ≡ 0 → failure_of secret q (reply_of secret q c) ≡ 0
+  pub reply_passes : form_of q ≡ 0 → failure_of secret q (reply_of secret q c) ≡ None
   unfolding failure_of bad_request bad_reply wrong_code wrong_identifier wrong_authenticator
   reply_passes form =
       rw (

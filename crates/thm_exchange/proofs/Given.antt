@@ -7,6 +7,7 @@ use Prim.Native.Nat.{ℕ, ◌+◌}
 use native.Mathlib.Nat.{add-zero}
 use native.Mathlib.Omega.{arith}
 use lib.ListN.{length}
+use Rattle.std.specs.Prelude.{None}
 use Rattle.attr_walk.specs.declared.Attribute.{Attribute}
 use Rattle.attr_walk.specs.Attributes.{attributes, value_of}
 use Rattle.packet_auth.specs.Signing.{zeros}
@@ -37,7 +38,7 @@ trailer_is : (b : Bool) (d : Draft) (mac : List ℕ) → length mac ≡ 16 → t
 trailer_is true d mac h = ap (λ (a : Attribute). a ∷ []) (added_is d mac h)
 trailer_is false d mac h = refl
 
-module _ (secret out : List ℕ) (d : Draft) (accepted : write_refusal secret out d ≡ 0) where
+module _ (secret out : List ℕ) (d : Draft) (accepted : write_refusal secret out d ≡ None) where
   given : bad_given d ≡ false
   given = (taken secret out d accepted).given
 

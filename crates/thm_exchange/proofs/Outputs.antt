@@ -5,6 +5,7 @@ use mathlib.Core.List.{List, ◌∷◌}
 use Prim.Native.Nat.{ℕ, ◌≤◌}
 use native.Mathlib.Omega.{arith}
 use lib.ListN.{length}
+use Rattle.std.specs.Prelude.{None}
 use Rattle.octet_numbers.specs.Numbers.{be_bytes}
 use Rattle.octet_numbers.specs.Runs.{part}
 use Rattle.octet_numbers.proofs.Part.{part_whole, part-written}
@@ -28,7 +29,7 @@ length_request secret d =
     ∙ length-signed secret zeros (d.code ∷ d.identifier ∷ be_bytes 2 (request_length d)) d.given d.add (head_four secret zeros d.given d.add d.code d.identifier (request_length d))
     ∙ sym (length_is d)
 
-module _ (secret out : List ℕ) (d : Draft) (accepted : write_refusal secret out d ≡ 0) where
+module _ (secret out : List ℕ) (d : Draft) (accepted : write_refusal secret out d ≡ None) where
   good : bad_given d ≡ false
   good = (taken secret out d accepted).given
 

@@ -5,6 +5,7 @@ use mathlib.Core.Bool.{Bool, true, false, not, ◌||◌, false≢true}
 use mathlib.Core.List.{List, ◌∷◌}
 use Prim.Native.Nat.{ℕ, ◌≤◌}
 use native.Mathlib.Omega.{arith}
+use Rattle.std.specs.Prelude.{None}
 use Rattle.octet_numbers.specs.Numbers.{be_bytes}
 use Rattle.attr_walk.specs.Attributes.{attributes, tiled, any, kind_is}
 use Rattle.packet_auth.specs.Signing.{zeros}
@@ -47,7 +48,7 @@ pub request_short : (d : Draft) → bad_given d ≡ false → request_length d �
 unfolding request_length packet_length mac_valued mac_room
 request_short d h = omega (arith, given_short d.given d.code d.identifier d.add h)
 
-module _ (secret out : List ℕ) (d : Draft) (accepted : write_refusal secret out d ≡ 0) where
+module _ (secret out : List ℕ) (d : Draft) (accepted : write_refusal secret out d ≡ None) where
   given : bad_given d ≡ false
   given = (taken secret out d accepted).given
 

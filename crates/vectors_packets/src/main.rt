@@ -6,6 +6,7 @@ mod stored; // stored.rt: the packets
 ghost use Rattle.std.specs.Prelude.{◌≤◌, ◌<◌};
 
 use std::io;
+use table_records::Session;
 
 fn wide(x: u8) -> u64
     ensures { result < 256 }
@@ -85,13 +86,31 @@ fn changed<W: io::Write>(out: &mut W, before: &[u8], t: &[u8], k: usize) -> io::
     Ok(())
 }
 
-// Two sessions on NAS-Port 7.
+// Two sessions on NAS-Port 7, in slots 0 and 1.
 fn table() -> [u8; 384] {
     let mut t = [0u8; 384];
-    table_sessions::insert(
-        &mut t, 7, 0x0a000007, 65000, 600, b"ann", b"4F", b"02", b"day",
-    );
-    table_sessions::insert(&mut t, 7, 0x0a000008, 7200, 600, b"bob", b"50", b"", b"");
+    let ann = Session {
+        nas_port: 7,
+        framed_address: 0x0a000007,
+        session_timeout: 65000,
+        idle_timeout: 600,
+        user_name: b"ann",
+        session_id: b"4F",
+        calling_station: b"02",
+        filter_id: b"day",
+    };
+    let bob = Session {
+        nas_port: 7,
+        framed_address: 0x0a000008,
+        session_timeout: 7200,
+        idle_timeout: 600,
+        user_name: b"bob",
+        session_id: b"50",
+        calling_station: b"",
+        filter_id: b"",
+    };
+    let _ = table_sessions::insert(&mut t, &ann);
+    let _ = table_sessions::insert(&mut t, &bob);
     t
 }
 

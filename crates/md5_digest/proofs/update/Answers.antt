@@ -1,6 +1,4 @@
 -- `md5_digest::update` meets its contract: the piece stays in the buffer, or it ends the block and the rest is handled where no block is begun.
-use native.Mathlib.Omega.{arith}
-use lib.ListN.{length-take}
 use borrow.Author.Rules.{rules}
 use Rattle.md5_digest.proofs.Pieces.{held_here, held_short, held_across}
 use Rattle.md5_digest.proofs.update.Goals as goal
@@ -10,12 +8,6 @@ returns-then-f-eq0 c = search (rules, held_here)
 
 pub returns-then-s-j : goal.returns-then-s-j
 returns-then-s-j c = search (rules, held_short)
-
-pub slice_bounds-copy-end : goal.slice_bounds-copy-end
-slice_bounds-copy-end c = simp length-take (omega arith)
-
-pub copy-requires-2 : goal.copy-requires-2
-copy-requires-2 c = simp length-take (omega arith)
 
 pub returns : goal.returns
 returns c = search (rules, held_across)

@@ -19,7 +19,7 @@ pub returns-clause-value : goal.returns-clause-value
 returns-clause-value c = let free = c.free_all.ensures in search (rules, made_number)
 
 pub returns-clause-label_after : goal.returns-clause-label_after
-returns-clause-label_after c = let free = c.free_all.ensures in made_left _ _ _ _ c.bad_secret.ensures c.if-bad_secret.false _ c.bad_nas_id.ensures c.if-bad_nas_id.false _ _ _ _ _ _ _ _ _ free.words_after free.kinds_after free.places_after free.marks_after c.keep.ensures c.requires.0 c.keep-2.ensures c.requires.1
+returns-clause-label_after c = let free = c.free_all.ensures in made_left _ _ _ _ c.bad_secret.ensures c.if-bad_secret.false _ c.bad_nas_id.ensures c.if-bad_nas_id.false _ _ _ _ _ _ _ _ _ free.words_after free.kinds_after free.places_after free.marks_after c.keep.ensures (search rules) c.keep-2.ensures (search rules)
 
 pub keep-requires : goal.keep-requires
 keep-requires c = search (rules, secret_room)

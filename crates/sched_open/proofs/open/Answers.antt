@@ -31,7 +31,7 @@ pub returns-then-d-ne0-clause-job_after : goal.returns-then-d-ne0-clause-job_aft
 returns-then-d-ne0-clause-job_after c = search (rules, discarded_place)
 
 pub admit-requires : goal.admit-requires
-admit-requires c = let sized = c.length_of-n.ensures in let j = c.lowest_free-j.ensures in let r = c.refusal-r.ensures _ j.0 in let none = c.if-r-ne0.false in let rows = c.requires in (rows.0, rows.1, rows.2, rows.3, goes_below _ _ c.args.store.now j.0 _ r none j.1, sized.high, sized.given, goes_long _ _ c.args.store.now j.0 _ r none)
+admit-requires c = let sized = c.length_of-n.ensures in let j = c.lowest_free-j.ensures in let r = c.refusal-r.ensures _ j.0 in let none = c.if-r-ne0.false in (goes_below _ _ c.args.store.now j.0 _ r none j.1, sized.high, sized.given, goes_long _ _ c.args.store.now j.0 _ r none)
 
 pub returns-clause-value : goal.returns-clause-value
 returns-clause-value c = search (rules, opened_number)

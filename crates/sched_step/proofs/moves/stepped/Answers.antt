@@ -5,7 +5,7 @@ use Rattle.sched_step.proofs.Parts.{part_table, part_ending, part_words, part_ki
 use Rattle.sched_step.proofs.moves.stepped.Goals as goal
 
 pub worked-m-requires : goal.worked-m-requires
-worked-m-requires c = (search rules, search rules, search rules, search rules, search rules, search rules, search (rules, part_long), search rules)
+worked-m-requires c = (search rules, search rules, search (rules, part_long), search rules)
 
 pub returns-clause-value : goal.returns-clause-value
 returns-clause-value c = let e = c.worked-m.ensures in let q = c.slice-q.ensures in let w = c.settled.ensures in part_ending _ _ _ _ _ _ _ _ _ _ _ q _ e.value

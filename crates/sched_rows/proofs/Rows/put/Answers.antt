@@ -1,7 +1,7 @@
--- `sched_rows::writing::put` meets its contract: a store for each row.
+-- `sched_rows::Rows::put` meets its contract: a store for each row.
 use borrow.Author.Rules.{rules}
-use Rattle.sched_rows.proofs.Rows.{put_kinds, put_places}
-use Rattle.sched_rows.proofs.writing.put.Goals as goal
+use Rattle.sched_rows.proofs.JobRows.{put_kinds, put_places}
+use Rattle.sched_rows.proofs.Rows.put.Goals as goal
 
 pub returns-clause-kinds_after : goal.returns-clause-kinds_after
 returns-clause-kinds_after c = search (rules, put_kinds)
