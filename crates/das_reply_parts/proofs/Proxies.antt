@@ -13,7 +13,7 @@ use Rattle.attr_walk.specs.declared.Step.{Step}
 use Rattle.attr_walk.specs.declared.Step.TheVariants.{Found, End, Bad}
 use Rattle.attr_walk.specs.Attributes.{step_at, attributes_from}
 use Rattle.attr_walk.proofs.Steps.{found_placed}
-use Rattle.attr_walk.proofs.Walks.{left_found, left_end, left_bad}
+use Rattle.attr_walk.proofs.Walks.{advance, left_found, left_end, left_bad}
 use Rattle.das_reply_parts.specs.Reply.{as_came, proxies_in, proxy_part}
 
 -- t₀ with some of them written is t; the attributes from at on are left, and go to place to
@@ -76,3 +76,5 @@ module _ (s t₀ : List ℕ) (from : ℕ) (t : List ℕ) (at to : ℕ) (c : Copy
           let w : write t' to' rest ≡ write t to (proxies_in s (attributes_from s at)) =
           rw (e, g) (sym (write-append t to (as_came s a) rest)) ∙ ap (write t to) (sym split) in
           record { long = ap length e ∙ length-write t to (as_came s a) ∙ c.long; room = omega (arith, long_split, c.room); left = w ∙ c.left }
+
+pub ruleset copying = (advance, copy_starts, copy_stands, copy_none, copy_fits, copy_one, end_place, end_bytes, bad_place, bad_bytes)

@@ -7,14 +7,16 @@ use Prim.Native.Nat.{ℕ, ◌+◌, ◌-◌}
 use native.Mathlib.Omega.{arith}
 use borrow.Author.Tests.{eqb-true}
 use lib.Dec.{lit<}
-use lib.ListN.{get_or}
+use Rattle.octet_numbers.proofs.Write.{write_nil}
 use Rattle.attr_walk.specs.declared.Attribute.{Attribute}
 use Rattle.std.specs.Prelude.{Option, Some, None}
 use Rattle.attr_walk.specs.declared.Step.TheVariants.{Found}
 use Rattle.attr_walk.specs.Attributes.{step_at, attributes, any, found, first_of, kind_is}
 use Rattle.attr_walk.proofs.Stands.{first_stands}
 use Rattle.attr_walk.proofs.Searches.{first_passes}
-use Rattle.attr_survey.specs.Survey.{Kept, seen_at, end_of, size_of}
+use Rattle.attr_survey.specs.declared.counts.Noted.{Noted}
+use Rattle.attr_survey.specs.Noted.{noted_at, seen_at}
+use Rattle.attr_survey.specs.Survey.{Kept, end_of, size_of}
 use Rattle.attr_lookup.specs.Lookup.{kept_start}
 use Rattle.attr_lookup.proofs.Values.{seen_any}
 use Rattle.das_reply_parts.specs.Reply.{as_came, if_found, state_part}
@@ -34,20 +36,20 @@ state_of_lem s (Some a) end size q h e g =
     rw i (record { stands = first_stands (kind_is 24) s a q; is = ap (if_found s) q })
 state_of_lem s None end size q h e g = absurd (false≢true h)
 
-module _ (s count ends sizes : List ℕ) (kept : Kept s count ends sizes) (r : Bool) (is : r ≡ seen_at count 24) where
+module _ (s : List ℕ) (noted : List Noted) (kept : Kept s noted) (r : Bool) (is : r ≡ seen_at noted 24) where
   seen : any (kind_is 24) (attributes s) ≡ r
-  seen = sym (is ∙ seen_any s count ends sizes kept 24 (lit< tt) (λ e. omega arith))
+  seen = sym (is ∙ seen_any s noted kept 24 (lit< tt) (λ e. omega arith))
 
-  module _ (h : r ≡ true) (at : ℕ) (e : at ≡ kept_start 24 ends sizes) where
-    there : First s (record { kind = 24; at = at; size = get_or sizes 24 0 })
+  module _ (h : r ≡ true) (at : ℕ) (e : at ≡ kept_start 24 noted) where
+    there : First s (record { kind = 24; at = at; size = (noted_at noted 24).size })
     there =
         let known = kept.types 24 (lit< tt) (λ e. omega arith) in
-        rw e (state_of_lem s (first_of (kind_is 24) (attributes s)) (get_or ends 24 0) (get_or sizes 24 0) refl (seen ∙ h) known.end known.size)
+        rw e (state_of_lem s (first_of (kind_is 24) (attributes s)) ((noted_at noted 24).end) ((noted_at noted 24).size) refl (seen ∙ h) known.end known.size)
 
-    pub state-stands : step_at s at ≡ Found (record { kind = 24; at = at; size = get_or sizes 24 0 }) (at + get_or sizes 24 0)
+    pub state-stands : step_at s at ≡ Found (record { kind = 24; at = at; size = (noted_at noted 24).size }) (at + (noted_at noted 24).size)
     state-stands = there.stands
 
-    pub state-some : state_part s ≡ as_came s (record { kind = 24; at = at; size = get_or sizes 24 0 })
+    pub state-some : state_part s ≡ as_came s (record { kind = 24; at = at; size = (noted_at noted 24).size })
     state-some = there.is
 
   pub state_none : r ≡ false → state_part s ≡ []
@@ -57,3 +59,5 @@ module _ (s count ends sizes : List ℕ) (kept : Kept s count ends sizes) (r : B
       go : (z : Option Attribute) → found z ≡ false → if_found s z ≡ []
       go (Some a) e = absurd (false≢true (sym e))
       go None e = refl
+
+pub ruleset first_state = (state-stands, state-some, state_none, write_nil)

@@ -48,21 +48,8 @@ write_two l t i a b vs e =
     let two : i + 1 + 1 ≡ i + 2 = omega arith in
     e ∙ sym (write_cons l i a (b ∷ vs) ∙ write_cons (set l i a) (i + 1) b vs ∙ ap (λ (k : ℕ). write (set (set l i a) (i + 1) b) k vs) two)
 
--- three writes, each after the one before: the bytes, the end, and that each has room where all three have
-pub room_one : (i n : ℕ) (x y z : List ℕ) → i + length (x ++ y ++ z) ≤ n → i + length x ≤ n
-room_one i n x y z r = omega (arith, simp length-append at r)
-
-module _ (i e₁ e₂ : ℕ) (x y z : List ℕ) (h₁ : e₁ ≡ i + length x) where
-  pub room_two : (n m : ℕ) → i + length (x ++ y ++ z) ≤ n → m ≡ n → e₁ + length y ≤ m
-  room_two n m r k = omega (arith, simp length-append at r)
-
-  module _ (h₂ : e₂ ≡ e₁ + length y) where
-    pub room_three : (n m k : ℕ) → i + length (x ++ y ++ z) ≤ n → m ≡ n → k ≡ m → e₂ + length z ≤ k
-    room_three n m k r p q = omega (arith, simp length-append at r)
-
-    pub three_end : (e₃ : ℕ) → e₃ ≡ e₂ + length z → e₃ ≡ i + length (x ++ y ++ z)
-    three_end e₃ h₃ = simp length-append (omega arith)
-
-    pub write_three : (l t₁ t₂ t₃ : List ℕ) → t₁ ≡ write l i x → t₂ ≡ write t₁ e₁ y → t₃ ≡ write t₂ e₂ z → t₃ ≡ write l i (x ++ y ++ z)
-    write_three l t₁ t₂ t₃ p q r =
-        write_then t₂ t₃ l i e₂ (x ++ y) z (write_then t₁ t₂ l i e₁ x y p q h₁) r (simp length-append (omega arith))
+-- three writes, each after the one before
+pub write_three : (i e₁ e₂ : ℕ) (x y z l t₁ t₂ t₃ : List ℕ) → e₁ ≡ i + length x → e₂ ≡ e₁ + length y
+    → t₁ ≡ write l i x → t₂ ≡ write t₁ e₁ y → t₃ ≡ write t₂ e₂ z → t₃ ≡ write l i (x ++ y ++ z)
+write_three i e₁ e₂ x y z l t₁ t₂ t₃ h₁ h₂ p q r =
+    write_then t₂ t₃ l i e₂ (x ++ y) z (write_then t₁ t₂ l i e₁ x y p q h₁) r (simp length-append (omega arith))
