@@ -96,8 +96,3 @@ module _ (secret base head body l : List ℕ) (present : Bool) (four : length he
   sealed b t t₁ t₂ h i j k =
       let one : t₁ ≡ write l 0 full = j ∙ ap (λ (x : List ℕ). with_mac b base x e secret) i ∙ maced b (sym h) in
       k ∙ ap (λ (x : List ℕ). write x 4 (authenticator base x e secret)) one ∙ ap (write (write l 0 full) 4) auth_right ∙ signed
-
--- both signatures, one after the other
-pub then_signed : (t t₁ t₂ auth secret : List ℕ) (present : Bool) (n : ℕ) → t₁ ≡ with_mac present auth t n secret → t₂ ≡ write t₁ 4 (authenticator auth t₁ n secret)
-    → t₂ ≡ write (with_mac present auth t n secret) 4 (authenticator auth (with_mac present auth t n secret) n secret)
-then_signed t t₁ t₂ auth secret present n e g = g ∙ rw e

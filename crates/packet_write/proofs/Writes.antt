@@ -4,10 +4,10 @@ use mathlib.Core.Path.{◌≡◌, refl, sym, ap, ◌∙◌}
 use mathlib.Core.List.{List, [], ◌∷◌, ◌++◌}
 use Prim.Native.Nat.{ℕ, suc, ◌+◌, ◌≤◌}
 use native.Mathlib.Omega.{arith}
-use lib.ListN.{length, set, length-set, length-append}
+use lib.ListN.{length, set, length-append}
 use lib.Seq.{sets, set-set}
 use Rattle.octet_numbers.specs.Runs.{write}
-use Rattle.octet_numbers.proofs.Write.{set_before, write_apart, write-append, write_cons, write_then, write_long}
+use Rattle.octet_numbers.proofs.Write.{set_before, write_apart, write-append, write_cons, write_then}
 
 sets_over : (vs ws l : List ℕ) (i : ℕ) → length vs ≡ length ws → sets (sets l i vs) i ws ≡ sets l i ws
 sets_over [] [] l i h = refl
@@ -47,9 +47,6 @@ pub write_two : (l t : List ℕ) (i a b : ℕ) (vs : List ℕ) → t ≡ write (
 write_two l t i a b vs e =
     let two : i + 1 + 1 ≡ i + 2 = omega arith in
     e ∙ sym (write_cons l i a (b ∷ vs) ∙ write_cons (set l i a) (i + 1) b vs ∙ ap (λ (k : ℕ). write (set (set l i a) (i + 1) b) k vs) two)
-
-pub two_long : (l t : List ℕ) (i j k a b : ℕ) (vs : List ℕ) → t ≡ write (set (set l i a) j b) k vs → length t ≡ length l
-two_long l t i j k a b vs e = write_long t (set (set l i a) j b) k vs e ∙ length-set (set l i a) j b ∙ length-set l i a
 
 -- three writes, each after the one before: the bytes, the end, and that each has room where all three have
 pub room_one : (i n : ℕ) (x y z : List ℕ) → i + length (x ++ y ++ z) ≤ n → i + length x ≤ n

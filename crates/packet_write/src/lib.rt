@@ -9,6 +9,7 @@ ghost use Rattle.octet_numbers.specs.Runs.{write};
 ghost use Rattle.packet_write.specs.Rooms.{mac_room};
 
 // An attribute: type, length, value. Returns the place after it.
+#[tactic(auto, using(crate::proofs::Writes::write_two))]
 pub fn put(t: &mut [u8], to: usize, kind: u8, size: u8, v: &[u8]) -> usize
     requires { to + length (kind ∷ size ∷ v.now) ≤ length t.old }
     ensures t_after { t.new ≡ write t.old to (kind ∷ size ∷ v.now) }
@@ -21,6 +22,7 @@ pub fn put(t: &mut [u8], to: usize, kind: u8, size: u8, v: &[u8]) -> usize
 }
 
 // Type 80 with zeros for its value, where it is present.
+#[tactic(auto, using(octet_numbers::proofs::Write::write_nil), unfolding(crate::specs::Rooms::mac_room, packet_auth::specs::Signing::zeros))]
 pub fn put_room(t: &mut [u8], to: usize, present: bool) -> usize
     requires { to + length (mac_room «present») ≤ length t.old }
     ensures t_after { t.new ≡ write t.old to (mac_room «present») }
@@ -34,8 +36,9 @@ pub fn put_room(t: &mut [u8], to: usize, present: bool) -> usize
 }
 
 // Code, identifier and Length n, and auth in the authenticator's place.
-pub fn put_front(t: &mut [u8], code: u8, identifier: u8, n: usize, auth: &[u8])
-    requires { (20 ≤ length t.old) × (n ≤ 4096) × (length auth.now ≡ 16) }
+#[tactic(auto, using(crate::proofs::Fronts::front_written))]
+pub fn put_front(t: &mut [u8], code: u8, identifier: u8, n: usize, auth: &[u8; 16])
+    requires { (20 ≤ length t.old) × (n ≤ 4096) }
     ensures { t.new ≡ write t.old 0 ((code ∷ identifier ∷ be_bytes 2 n) ++ auth.now) }
 {
     t[0] = code;
