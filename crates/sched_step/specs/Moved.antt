@@ -8,12 +8,17 @@ use Rattle.sched_job.specs.declared.Moved as M
 use Rattle.sched_job.specs.Moves.{moved}
 use Rattle.sched_state.specs.Scheduler.{job_at}
 use Rattle.sched_state.specs.Calls.{is_ack}
+use Rattle.sched_rows.specs.declared.Rows.{Rows}
 use Rattle.sched_rows.specs.Layout.{kind_row, place_row, jobs_in}
 use Rattle.sched_rows.specs.Left.{restart_places, restart_marks}
 
 -- job j of these rows, moved by its part q of the store and the table t
 abbrev pub rows_moved : List ℕ → ℕ → List ℕ → List (List ℕ) → List (List ℕ) → List (List ℕ) → List (List ℕ) → ℕ → List ℕ → List ℕ → M.Moved
 rows_moved secret nas_ip nas_id ws ks ps ms j q t = moved (settings secret nas_ip nas_id) (job_at (jobs_in (length secret) ws ks ps ms) j) q t
+
+-- the same of rows as they are lent
+abbrev pub moved_in : List ℕ → ℕ → List ℕ → Rows → ℕ → List ℕ → List ℕ → M.Moved
+moved_in secret nas_ip nas_id r j q t = rows_moved secret nas_ip nas_id r.words.now r.kinds.now r.places.now r.marks.now j q t
 
 -- whether a step ended in ACK
 abbrev pub ack_by : E.Ending → Bool
