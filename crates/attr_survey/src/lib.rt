@@ -34,6 +34,7 @@ pub struct Flags {
 }
 
 // What one pass told of the attributes of an area, in a request of this code.
+#[derive(Drop)]
 pub struct Survey<'a> {
     pub area: &'a [u8],
     pub code: u8,

@@ -31,8 +31,8 @@ alone answer = told answer 0 0 (pos 0) 0
 
 -- the five answers; a refusal leaves the four numbers beside it as they were
 unfoldable pub answer_told : D.Answer → Told → Told
-answer_told (Refused n) old = told n old.changed old.length old.skew old.stamped
-answer_told (Discarded d) old = told (100 + d) 0 0 (pos 0) 0
+answer_told (Refused r) old = told (refusal_number r) old.changed old.length old.skew old.stamped
+answer_told (Discarded d) old = told (100 + discard_number d) 0 0 (pos 0) 0
 answer_told (Stale skew) old = told 106 0 0 skew 1
 answer_told (Nak c skew n) old = told (error_cause c) 0 n skew 1
 answer_told (Ack k skew n) old = told 0 k n skew 1

@@ -1,16 +1,15 @@
 -- What C is told of a call on a scheduler: the answer's number, and the numbers beside it, which a refusal leaves as they were.
 -- Assumes nothing.
-use Rattle.std.specs.Prelude.{ℕ}
+use Rattle.std.specs.Prelude.{ℕ, Option, Some, None}
+use Rattle.das_answer.specs.declared.Answer.{Answer}
 use Rattle.das_answer.specs.declared.Answer.TheVariants as A
-use Rattle.sched_job.specs.declared.Ending as E
-use Rattle.sched_job.specs.declared.Ending.TheVariants as K
 use Rattle.sched_state.specs.declared.Outcome as O
 use Rattle.sched_state.specs.declared.Outcome.TheVariants.{Refused, Discarded, Opened, Going, Done, Dropped, Started, Ended}
 use Rattle.c_numbers.specs.Numbers.{Told, alone, answer_told}
 
 -- a refusal, a discard and a finished request: as whole handling tells the same answer; 600 not finished; else 0, done
 unfoldable pub told_by : O.Outcome → Told → Told
-told_by (Refused n) old = answer_told (A.Refused n) old
+told_by (Refused r) old = answer_told (A.Refused r) old
 told_by (Discarded d) old = answer_told (A.Discarded d) old
 told_by (Opened j) old = alone 0
 told_by Going old = alone 600
@@ -25,7 +24,7 @@ number_by o = (told_by o (alone 0)).answer
 
 -- the job that was opened, or the slot of the session that was started
 unfoldable pub place_by : O.Outcome → ℕ → ℕ
-place_by (Refused n) old = old
+place_by (Refused r) old = old
 place_by (Discarded d) old = old
 place_by (Opened j) old = j
 place_by Going old = old
@@ -35,6 +34,6 @@ place_by (Started k) old = k
 place_by Ended old = old
 
 -- for inner contracts: the outcome of a step that is not refused
-abbrev pub outcome_of : E.Ending → O.Outcome
-outcome_of K.Going = Going
-outcome_of (K.Done a) = Done a
+abbrev pub outcome_of : Option Answer → O.Outcome
+outcome_of None = Going
+outcome_of (Some a) = Done a

@@ -5,6 +5,8 @@ ghost use Rattle.sched_rows.specs.Layout.{held, scheduler_in};
 ghost use Rattle.sched_rows.specs.Left.{drop_left};
 ghost use Rattle.c_told.specs.Told.{number_by};
 
+use sched_rows::{Made, Rows};
+
 #[unsafe(no_mangle)]
 pub extern "C" fn fbk_drop_lent(
     words: &mut [[u32; 4]; 4],
@@ -21,16 +23,18 @@ pub extern "C" fn fbk_drop_lent(
     ensures value { result ≡ number_by (drop_called (scheduler_in (held words.old kinds.old places.old marks.old secret.now size nas_ip nas_id.now label)) job).outcome }
     ensures label_after { held words.new kinds.new places.new marks.new secret.now size nas_ip nas_id.now label ≡ drop_left (held words.old kinds.old places.old marks.old secret.now size nas_ip nas_id.now label) job }
 {
-    sched_open::drop(
+    let mut rows = Rows {
         words,
         kinds,
         places,
         marks,
+    };
+    let made = Made {
         secret,
-        size,
+        secret_size: size,
         nas_ip,
         nas_id,
-        label,
-        job as usize,
-    )
+        nas_id_size: label,
+    };
+    sched_open::drop(&mut rows, &made, job as usize)
 }

@@ -6,6 +6,8 @@ ghost use Rattle.sched_rows.specs.Layout.{held, scheduler_in};
 ghost use Rattle.sched_rows.specs.Left.{end_left};
 ghost use Rattle.c_told.specs.Told.{number_by};
 
+use sched_rows::Made;
+
 #[unsafe(no_mangle)]
 pub extern "C" fn fbk_end_lent(
     words: &[[u32; 4]; 4],
@@ -24,17 +26,12 @@ pub extern "C" fn fbk_end_lent(
     ensures label_after { held words.now kinds.now places.new marks.new secret.now size nas_ip nas_id.now label ≡ end_left (held words.now kinds.now places.old marks.old secret.now size nas_ip nas_id.now label) slot table.old }
     ensures table_after { table.new ≡ remove_table slot table.old }
 {
-    sched_start::end(
-        words,
-        kinds,
-        places,
-        marks,
+    let made = Made {
         secret,
-        size,
+        secret_size: size,
         nas_ip,
         nas_id,
-        label,
-        table,
-        slot as usize,
-    )
+        nas_id_size: label,
+    };
+    sched_start::end(words, kinds, places, marks, &made, table, slot as usize)
 }

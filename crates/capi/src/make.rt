@@ -5,6 +5,8 @@ ghost use Rattle.sched_state.specs.Refusals.{make_refusal};
 ghost use Rattle.sched_rows.specs.Layout.{held};
 ghost use Rattle.sched_rows.specs.Left.{make_left};
 
+use sched_rows::Rows;
+
 #[unsafe(no_mangle)]
 pub extern "C" fn fbk_make_lent(
     words: &mut [[u32; 4]; 4],
@@ -23,7 +25,13 @@ pub extern "C" fn fbk_make_lent(
     ensures value { result ≡ make_refusal (settings secret.now ip nas_id.now) }
     ensures label_after { held words.new kinds.new places.new marks.new kept.new size.new nas_ip.new own.new label.new ≡ make_left (settings secret.now ip nas_id.now) (held words.old kinds.old places.old marks.old kept.old size.old nas_ip.old own.old label.old) }
 {
+    let mut rows = Rows {
+        words,
+        kinds,
+        places,
+        marks,
+    };
     sched_make::make(
-        words, kinds, places, marks, kept, size, nas_ip, own, label, secret, ip, nas_id,
+        &mut rows, kept, size, nas_ip, own, label, secret, ip, nas_id,
     )
 }

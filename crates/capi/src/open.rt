@@ -5,6 +5,8 @@ ghost use Rattle.sched_rows.specs.Layout.{held, scheduler_in};
 ghost use Rattle.sched_rows.specs.Left.{open_left};
 ghost use Rattle.c_told.specs.Told.{number_by, place_by};
 
+use sched_rows::{Made, Rows};
+
 #[unsafe(no_mangle)]
 pub extern "C" fn fbk_open_lent(
     words: &mut [[u32; 4]; 4],
@@ -26,7 +28,18 @@ pub extern "C" fn fbk_open_lent(
     ensures store_after { store.new ≡ open_store (scheduler_in (held words.old kinds.old places.old marks.old secret.now size nas_ip nas_id.now label)) packet.now store.old }
     ensures job_after { job.new ≡ place_by (open_called (scheduler_in (held words.old kinds.old places.old marks.old secret.now size nas_ip nas_id.now label)) packet.now clock store.old).outcome job.old }
 {
-    sched_open::open(
-        words, kinds, places, marks, secret, size, nas_ip, nas_id, label, packet, clock, store, job,
-    )
+    let mut rows = Rows {
+        words,
+        kinds,
+        places,
+        marks,
+    };
+    let made = Made {
+        secret,
+        secret_size: size,
+        nas_ip,
+        nas_id,
+        nas_id_size: label,
+    };
+    sched_open::open(&mut rows, &made, packet, clock, store, job)
 }

@@ -7,6 +7,8 @@ ghost use Rattle.sched_rows.specs.Layout.{held, scheduler_in};
 ghost use Rattle.sched_rows.specs.Left.{start_left};
 ghost use Rattle.c_told.specs.Told.{number_by, place_by};
 
+use sched_rows::Made;
+
 #[unsafe(no_mangle)]
 pub extern "C" fn fbk_start_lent(
     words: &[[u32; 4]; 4],
@@ -34,8 +36,15 @@ pub extern "C" fn fbk_start_lent(
     ensures table_after { table.new ≡ insert_table (session_of port framed timeout idle user.now id.now station.now filter.now) table.old }
     ensures slot_after { slot.new ≡ place_by (start_called (scheduler_in (held words.now kinds.now places.old marks.old secret.now size nas_ip nas_id.now label)) (session_of port framed timeout idle user.now id.now station.now filter.now) table.old).outcome slot.old }
 {
+    let made = Made {
+        secret,
+        secret_size: size,
+        nas_ip,
+        nas_id,
+        nas_id_size: label,
+    };
     sched_start::start(
-        words, kinds, places, marks, secret, size, nas_ip, nas_id, label, table, port, framed,
-        timeout, idle, user, id, station, filter, slot,
+        words, kinds, places, marks, &made, table, port, framed, timeout, idle, user, id, station,
+        filter, slot,
     )
 }

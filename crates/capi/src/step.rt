@@ -6,6 +6,8 @@ ghost use Rattle.sched_rows.specs.Left.{step_left};
 ghost use Rattle.c_numbers.specs.Numbers.{told};
 ghost use Rattle.c_told.specs.Told.{told_by};
 
+use sched_rows::{Made, Rows};
+
 #[unsafe(no_mangle)]
 pub extern "C" fn fbk_step_lent(
     words: &mut [[u32; 4]; 4],
@@ -31,16 +33,22 @@ pub extern "C" fn fbk_step_lent(
     ensures table_after { table.new ≡ step_table (scheduler_in (held words.old kinds.old places.old marks.old secret.now size nas_ip nas_id.now label)) job table.old reply.old store.now }
     ensures reply_after { reply.new ≡ step_reply (scheduler_in (held words.old kinds.old places.old marks.old secret.now size nas_ip nas_id.now label)) job table.old reply.old store.now }
 {
-    sched_step::step(
+    let mut rows = Rows {
         words,
         kinds,
         places,
         marks,
+    };
+    let made = Made {
         secret,
-        size,
+        secret_size: size,
         nas_ip,
         nas_id,
-        label,
+        nas_id_size: label,
+    };
+    sched_step::step(
+        &mut rows,
+        &made,
         job as usize,
         table,
         reply,

@@ -1,6 +1,6 @@
 -- The reply check (document 01: "The reply check names the first failure"). q is the request, r the reply.
 -- Assumes nothing.
-use Rattle.std.specs.Prelude.{Bool, cond, not, ◌||◌, List, ℕ, ◌+◌, eqb, Option, Some, None, Result, Ok, Err}
+use Rattle.std.specs.Prelude.{Bool, cond, not, ◌||◌, List, ℕ, ◌+◌, eqb, Option, Some, None, Result, Ok, Err, is_some}
 use Rattle.octet_numbers.specs.Runs.{equal_bytes}
 use Rattle.packet_auth.specs.Signing.{authenticator}
 use Rattle.packet_form.specs.Packet.{code_of, identifier_of, length_of, auth_of}
@@ -15,7 +15,7 @@ use Rattle.dac_check.specs.declared.Unfit.TheVariants as U
 
 -- V1: request fails D1 to D3
 unfoldable pub bad_request : List ℕ → Bool
-bad_request q = not (eqb (form_of q) 0)
+bad_request q = is_some (form_of q)
 
 -- V2: reply fails D1's or D3's rule
 unfoldable pub bad_reply : List ℕ → Bool

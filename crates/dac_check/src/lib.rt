@@ -1,15 +1,16 @@
 // The check of a reply against its request: V1 to V6, each returned as soon as it is known.
 #![tactic(auto)]
 
-ghost use Rattle.std.specs.Prelude.{◌≡◌, false, not, ◌||◌, ◌+◌, ◌≤◌, eqb, length, Some, None, MatchResult};
-ghost use Rattle.octet_numbers.specs.Runs.{part, equal_bytes};
+ghost use Rattle.std.specs.Prelude.{◌≡◌, false, not, ◌||◌, ◌+◌, eqb, Some, None, MatchResult};
+ghost use Rattle.octet_numbers.specs.Runs.{equal_bytes};
 ghost use Rattle.packet_auth.specs.Signing.{authenticator};
-ghost use Rattle.attr_survey.specs.Survey.{Kept};
-ghost use Rattle.packet_form.specs.Packet.{area_of};
-ghost use Rattle.packet_form.specs.Discards.{form_of, Sized};
+ghost use Rattle.packet_form.specs.Packet.{length_of, auth_of, area_of};
+ghost use Rattle.packet_form.specs.Discards.{form_of};
 ghost use Rattle.dac_check.specs.declared.Unfit.TheVariants as U;
 ghost use Rattle.dac_check.specs.ReplyCheck.{bad_reply, failure_of, check_answer};
 
+use attr_survey::Survey;
+use packet_form::Packet;
 use refusals::{Mismatch, Refusal};
 
 // Why a reply is not right.
@@ -54,40 +55,30 @@ fn wrong_identifier(identifier: u8, answer: u8) -> bool
 }
 
 // Whether a packet holds its authenticator, worked out over auth. The comparison takes all 16 bytes.
-fn authentic(p: &[u8], n: usize, auth: &[u8], secret: &[u8]) -> bool
-    requires { (20 ≤ n) × (n ≤ length p.now) × (length auth.now ≡ 16) }
-    ensures { result ≡ equal_bytes (part 4 16 p.now) (authenticator auth.now p.now n secret.now) }
+fn authentic(packet: &Packet, auth: &[u8; 16], secret: &[u8]) -> bool
+    ensures { result ≡ equal_bytes (auth_of packet.now.bytes.now) (authenticator auth.now packet.now.bytes.now (length_of packet.now.bytes.now) secret.now) }
 {
-    let d = packet_auth::authenticator(p, n, auth, secret);
-    octet_runs::equal16(p, 4, &d, 0)
+    let d = packet_auth::authenticator(packet.bytes, packet.length, auth, secret);
+    octet_runs::equal16(packet.bytes, 4, &d, 0)
 }
 
-// V3 to V6: neither V1 nor V2 applies, n is the reply's Length, and one pass told the rest of its attributes.
+// V3 to V6: neither V1 nor V2 applies, and one pass told the rest of the reply's attributes.
 #[tactic(auto, unfolding(crate::specs::ReplyCheck::failure_of, crate::specs::ReplyCheck::bad_request, crate::specs::ReplyCheck::wrong_code, crate::specs::ReplyCheck::wrong_identifier, crate::specs::ReplyCheck::wrong_authenticator))]
-fn mismatch(
-    secret: &[u8],
-    q: &[u8],
-    r: &[u8],
-    n: usize,
-    count: &[u8; 256],
-    ends: &[u16; 256],
-    sizes: &[u8; 256],
-) -> Result<(), Mismatch>
-    requires q_value { (form_of q.now ≡ 0) × (20 ≤ length q.now) × (bad_reply r.now ≡ false) × Sized r.now n }
-    requires kept { Kept (area_of r.now) count.now ends.now sizes.now }
-    ensures { MatchResult result (λ _. failure_of secret.now q.now r.now ≡ None) (λ v. failure_of secret.now q.now r.now ≡ Some v) }
+fn mismatch(secret: &[u8], q: &Packet, r: &Packet, survey: &Survey) -> Result<(), Mismatch>
+    requires { (form_of q.now.bytes.now ≡ None) × (bad_reply r.now.bytes.now ≡ false) × (survey.now.area.now ≡ area_of r.now.bytes.now) }
+    ensures { MatchResult result (λ _. failure_of secret.now q.now.bytes.now r.now.bytes.now ≡ None) (λ v. failure_of secret.now q.now.bytes.now r.now.bytes.now ≡ Some v) }
 {
-    if wrong_code(q[0], r[0]) {
+    if wrong_code(q.code(), r.code()) {
         return Err(Mismatch::Code);
     }
-    if wrong_identifier(q[1], r[1]) {
+    if wrong_identifier(q.identifier(), r.identifier()) {
         return Err(Mismatch::Identifier);
     }
-    let auth = octet_runs::slice(q, 4, 16);
-    if !authentic(r, n, auth, secret) {
+    let auth = q.authenticator();
+    if !authentic(r, &auth, secret) {
         return Err(Mismatch::Authenticator);
     }
-    if packet_mac::bad_mac(r, n, auth, secret, count, ends, sizes) {
+    if packet_mac::bad_mac(r, &auth, secret, survey) {
         return Err(Mismatch::MessageAuthenticator);
     }
     Ok(())
@@ -98,22 +89,18 @@ fn mismatch(
 fn failure(secret: &[u8], request: &[u8], reply: &[u8]) -> Result<(), Mismatch>
     ensures { MatchResult result (λ _. failure_of secret.now request.now reply.now ≡ None) (λ v. failure_of secret.now request.now reply.now ≡ Some v) }
 {
-    if packet_form::form(request) != 0 {
+    let Ok(q) = packet_form::form(request) else {
         return Err(Mismatch::Request);
-    }
+    };
     if packet_form::bad_length(reply) {
         return Err(Mismatch::Reply);
     }
-    let n = packet_form::sized(reply);
-    let s = octet_runs::slice(reply, 20, n - 20);
-    let mut count = [0u8; 256];
-    let mut ends = [0u16; 256];
-    let mut sizes = [0u8; 256];
-    let f = attr_survey::survey(s, reply[0], &mut count, &mut ends, &mut sizes);
-    if !f.tiled {
+    let r = Packet::sized(reply);
+    let survey = Survey::of(r.area(), r.code());
+    if !survey.flags.tiled {
         return Err(Mismatch::Reply);
     }
-    mismatch(secret, request, reply, n, &count, &ends, &sizes)
+    mismatch(secret, &q, &r, &survey)
 }
 
 // Checks a reply against its request: right, or why not.

@@ -23,12 +23,11 @@ use Rattle.table_criteria.specs.Meets.{field_bytes}
 use Rattle.table_slots.proofs.Count.{slot_fits}
 use Rattle.table_slots.proofs.Places.{length-slot}
 use Rattle.table_change.specs.declared.Alteration.{Alteration}
-use Rattle.table_change.specs.declared.Number.TheVariants as N
 use Rattle.table_change.specs.Change.{altered, changed}
 use Rattle.table_change.proofs.Untouched.{part_low, field_kept, live-altered}
 use Rattle.table_change.proofs.Written.{timeout_set, timeout_kept, idle_set, idle_kept, filter_set, filter_kept, down_set, down_kept, up_set, up_kept}
 use Rattle.das_effects.specs.Matching.{matches_in}
-use Rattle.das_effects.specs.Changes.{number_at, text_at, alteration_of, change_of, change_matching}
+use Rattle.das_effects.specs.Changes.{number_at, text_at, rates_named, alteration_of, change_of, change_matching}
 use Rattle.das_effects.proofs.Marked.{matching_live}
 use Rattle.das_effects.proofs.Outcomes.{slot_matching}
 
@@ -83,23 +82,27 @@ module _ (area t : List ℕ) (k : ℕ) (h : k < slot_count t) (m : matches_in ar
   pub filter_after : (a : Attribute) → first_of (kind_is 11) (attributes area) ≡ Some a → a.size ≤ 34 → filter_id (slot k (change_matching 43 area t)) ≡ value_of area a
   unfolding alteration_of
   filter_after a e g =
-      ap filter_id slot_is ∙ filter_set area (alteration_of area) (slot k t) (a.at + 2) (a.size - 2) (ap text_at e) (rw long (omega arith)) ∙ whole area a g
+      ap filter_id slot_is ∙ filter_set area (alteration_of area) (slot k t) (record { at = a.at + 2; size = a.size - 2 }) (ap text_at e) (rw long (omega arith)) ∙ whole area a g
 
   pub filter_same : first_of (kind_is 11) (attributes area) ≡ None → filter_id (slot k (change_matching 43 area t)) ≡ filter_id (slot k t)
   unfolding alteration_of
   filter_same e = ap filter_id slot_is ∙ filter_kept area (alteration_of area) (slot k t) (ap text_at e) was (rw long (omega arith))
 
   -- the rates, however the request names them
-  pub down_after : (v : ℕ) → (alteration_of area).down ≡ N.Set v → v < 2 ^ 32 → down_rate (slot k (change_matching 43 area t)) ≡ v
+  pub down_after : (v : ℕ) → (rates_named area).down ≡ Some v → v < 2 ^ 32 → down_rate (slot k (change_matching 43 area t)) ≡ v
+  unfolding alteration_of
   down_after v e f = ap down_rate slot_is ∙ down_set area (alteration_of area) (slot k t) v e f (rw long (omega arith))
 
-  pub down_same : (alteration_of area).down ≡ N.Unchanged → down_rate (slot k (change_matching 43 area t)) ≡ down_rate (slot k t)
+  pub down_same : (rates_named area).down ≡ None → down_rate (slot k (change_matching 43 area t)) ≡ down_rate (slot k t)
+  unfolding alteration_of
   down_same e = ap down_rate slot_is ∙ down_kept area (alteration_of area) (slot k t) e
 
-  pub up_after : (v : ℕ) → (alteration_of area).up ≡ N.Set v → v < 2 ^ 32 → up_rate (slot k (change_matching 43 area t)) ≡ v
+  pub up_after : (v : ℕ) → (rates_named area).up ≡ Some v → v < 2 ^ 32 → up_rate (slot k (change_matching 43 area t)) ≡ v
+  unfolding alteration_of
   up_after v e f = ap up_rate slot_is ∙ up_set area (alteration_of area) (slot k t) v e f (rw long (omega arith))
 
-  pub up_same : (alteration_of area).up ≡ N.Unchanged → up_rate (slot k (change_matching 43 area t)) ≡ up_rate (slot k t)
+  pub up_same : (rates_named area).up ≡ None → up_rate (slot k (change_matching 43 area t)) ≡ up_rate (slot k t)
+  unfolding alteration_of
   up_same e = ap up_rate slot_is ∙ up_kept area (alteration_of area) (slot k t) e
 
   -- ---- the fields that no CoA writes

@@ -1,4 +1,4 @@
-pub mod Counted
+pub mod Values
 pub mod Altering
 pub mod Five
 pub mod Asked

@@ -8,6 +8,7 @@ use native.Mathlib.Omega.{arith}
 use Rattle.octet_numbers.proofs.Equality.{and_both}
 use Rattle.attr_walk.specs.Attributes.{attributes, found}
 use Rattle.attr_types.specs.Types.{first_repeated, none}
+use Rattle.attr_survey.specs.declared.counts.Noted.{Noted}
 use Rattle.attr_survey.specs.Survey.{Kept}
 use Rattle.table_slots.specs.Slot.{slot_count, slot, live}
 use Rattle.table_criteria.specs.Meets.{matches_at}
@@ -46,10 +47,10 @@ none-marked area c marks (suc k) t e =
 
 -- ---- the walk by the criteria that the pass kept: m is its marks
 
-module _ (area t m : List ℕ) (count ends sizes : List ℕ) (i : Kept area count ends sizes) (once : found (first_repeated none (attributes area)) ≡ false)
-    (e : m ≡ marks_after (matches_at area (taken_criteria count ends sizes) t) (slot_count t)) where
+module _ (area t m : List ℕ) (noted : List Noted) (i : Kept area noted) (once : found (first_repeated none (attributes area)) ≡ false)
+    (e : m ≡ marks_after (matches_at area (taken_criteria noted) t) (slot_count t)) where
   matching : m ≡ marks_after (matches_in area t) (slot_count t)
-  matching = e ∙ kept_marks area t (slot_count t) count ends sizes i once
+  matching = e ∙ kept_marks area t (slot_count t) noted i once
 
   pub marks_change : (code : ℕ) → change_marked area (change_of code area) m (slot_count t) t ≡ change_matching code area t
   unfolding change_matching

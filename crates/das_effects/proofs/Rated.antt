@@ -6,7 +6,6 @@ use mathlib.Core.List.{List}
 use Prim.Native.Nat.{ℕ, ◌^◌, ◌<◌}
 use native.Mathlib.Omega.{arith}
 use lib.Dec.{lit<}
-use lib.ListN.{get_or}
 use Rattle.attr_walk.specs.declared.Attribute.{Attribute}
 use Rattle.std.specs.Prelude.{Option, Some, None}
 use Rattle.attr_walk.specs.Attributes.{attributes, value_of, found, first_of, kind_is}
@@ -15,46 +14,35 @@ use Rattle.attr_vendor.specs.declared.Vendor.{Vendor}
 use Rattle.attr_vendor.specs.declared.Vendor.TheVariants.{Other, Faulty, Sets}
 use Rattle.attr_vendor.specs.Vendor.{unset, vendor_of, vendor_in}
 use Rattle.attr_vendor.proofs.Low.{Bytes, LowRate, Low, LowVendor, value_low, vendor_low, unset_low}
-use Rattle.attr_survey.specs.Survey.{Kept, seen_at, end_of, size_of}
+use Rattle.attr_survey.specs.declared.counts.Noted.{Noted}
+use Rattle.attr_survey.specs.Noted.{noted_at, seen_at}
+use Rattle.attr_survey.specs.Survey.{Kept, end_of, size_of}
 use Rattle.attr_lookup.specs.Lookup.{kept_value}
 use Rattle.attr_lookup.proofs.Values.{kept_attribute, seen_any}
-use Rattle.table_change.specs.declared.Number.TheVariants as N
-use Rattle.das_effects.specs.Changes.{rates_by, rates_at, rates_named, rate_number, alteration_of}
+use Rattle.das_effects.specs.Changes.{rates_by, rates_at, rates_named}
 
-first_rates : (area ends sizes : List ℕ) (z : Option Attribute) → found z ≡ true → get_or ends 26 0 ≡ end_of z → get_or sizes 26 0 ≡ size_of z
-    → rates_by (vendor_of (kept_value area 26 ends sizes)) ≡ rates_at area z
-first_rates area ends sizes (Some a) h p q = ap (λ (v : List ℕ). rates_by (vendor_of v)) (kept_attribute area a 26 ends sizes p q)
-first_rates area ends sizes None h p q = absurd (false≢true h)
+first_rates : (area : List ℕ) (noted : List Noted) (z : Option Attribute) → found z ≡ true → (noted_at noted 26).end ≡ end_of z → (noted_at noted 26).size ≡ size_of z
+    → rates_by (vendor_of (kept_value area 26 noted)) ≡ rates_at area z
+first_rates area noted (Some a) h p q = ap (λ (v : List ℕ). rates_by (vendor_of v)) (kept_attribute area a 26 noted p q)
+first_rates area noted None h p q = absurd (false≢true h)
 
 no_rates : (area : List ℕ) (z : Option Attribute) → found z ≡ false → unset ≡ rates_at area z
 no_rates area (Some a) h = absurd (true≢false h)
 no_rates area None h = refl
 
-module _ (area count ends sizes : List ℕ) (kept : Kept area count ends sizes) (b : Bool) (is : b ≡ seen_at count 26) where
+module _ (area : List ℕ) (noted : List Noted) (kept : Kept area noted) (b : Bool) (is : b ≡ seen_at noted 26) where
   seen : found (first_of (kind_is 26) (attributes area)) ≡ b
-  seen = sym (is ∙ seen_any area count ends sizes kept 26 (lit< tt) (λ e. omega arith))
+  seen = sym (is ∙ seen_any area noted kept 26 (lit< tt) (λ e. omega arith))
 
-  pub rates_there : b ≡ true → (v : List ℕ) → v ≡ kept_value area 26 ends sizes → (x : Vendor) → x ≡ vendor_of v → (r : Rates) → r ≡ rates_by x → r ≡ rates_named area
+  pub rates_there : b ≡ true → (v : List ℕ) → v ≡ kept_value area 26 noted → (x : Vendor) → x ≡ vendor_of v → (r : Rates) → r ≡ rates_by x → r ≡ rates_named area
   unfolding rates_named
   rates_there h v ev x ex r e =
       let known = kept.types 26 (lit< tt) (λ i. omega arith) in
-      e ∙ rw (ex, ev) (first_rates area ends sizes (first_of (kind_is 26) (attributes area)) (seen ∙ h) known.end known.size)
+      e ∙ rw (ex, ev) (first_rates area noted (first_of (kind_is 26) (attributes area)) (seen ∙ h) known.end known.size)
 
   pub rates_none : b ≡ false → unset ≡ rates_named area
   unfolding rates_named
   rates_none h = no_rates area (first_of (kind_is 26) (attributes area)) (seen ∙ h)
-
-pub number_unset : (r : Option ℕ) → r ≡ None → N.Unchanged ≡ rate_number r
-number_unset r e = rw e
-
-pub number_is : (r : Option ℕ) (v : ℕ) → r ≡ Some v → N.Set v ≡ rate_number r
-number_is r v e = rw e
-
-pub by_other : (x : Vendor) → x ≡ Other → unset ≡ rates_by x
-by_other x e = rw e
-
-pub by_faulty : (x : Vendor) (p : ℕ) → x ≡ Faulty p → unset ≡ rates_by x
-by_faulty x p e = rw e
 
 -- ---- of bytes, the rates fit into 32 bits
 
@@ -80,22 +68,3 @@ module _ (area : List ℕ) (v : ℕ) (b : Bytes area) where
 
   pub up_below : (rates_named area).up ≡ Some v → v < 2 ^ 32
   up_below e = rate_below (rates_named area).up v e (named_low area b).up
-
--- ---- so a CoA sets them
-
-module _ (area : List ℕ) where
-  pub down_set : (v : ℕ) → (rates_named area).down ≡ Some v → (alteration_of area).down ≡ N.Set v
-  unfolding alteration_of
-  down_set v e = ap rate_number e
-
-  pub down_unset : (rates_named area).down ≡ None → (alteration_of area).down ≡ N.Unchanged
-  unfolding alteration_of
-  down_unset e = ap rate_number e
-
-  pub up_set : (v : ℕ) → (rates_named area).up ≡ Some v → (alteration_of area).up ≡ N.Set v
-  unfolding alteration_of
-  up_set v e = ap rate_number e
-
-  pub up_unset : (rates_named area).up ≡ None → (alteration_of area).up ≡ N.Unchanged
-  unfolding alteration_of
-  up_unset e = ap rate_number e

@@ -3,6 +3,7 @@
 -- Assumes nothing.
 use Rattle.std.specs.Prelude.{cond, List, ℕ, ◌+◌, ◌-◌, eqb, Option, Some, None}
 use Rattle.octet_numbers.specs.Numbers.{be}
+use Rattle.octet_runs.specs.declared.span.Span.{Span}
 use Rattle.attr_walk.specs.declared.Attribute.{Attribute}
 use Rattle.attr_walk.specs.Attributes.{attributes, first_of, kind_is}
 use Rattle.attr_vendor.specs.declared.Rates.{Rates}
@@ -13,21 +14,17 @@ use Rattle.table_slots.specs.Slot.{slot_count}
 use Rattle.table_change.specs.declared.Change.{Change}
 use Rattle.table_change.specs.declared.Change.TheVariants.{End, Alter}
 use Rattle.table_change.specs.declared.Alteration.{Alteration}
-use Rattle.table_change.specs.declared.Number.{Number}
-use Rattle.table_change.specs.declared.Number.TheVariants as N
-use Rattle.table_change.specs.declared.Text.{Text}
-use Rattle.table_change.specs.declared.Text.TheVariants as T
 use Rattle.table_change.specs.Change.{change_where}
 use Rattle.das_effects.specs.Matching.{matches_in}
 
 -- the four bytes of a value as a number, and where a value lies; nothing where there is no such attribute
-abbrev pub number_at : List ℕ → Option Attribute → Number
-number_at area (Some a) = N.Set (be (a.at + 2) 4 area)
-number_at area None = N.Unchanged
+abbrev pub number_at : List ℕ → Option Attribute → Option ℕ
+number_at area (Some a) = Some (be (a.at + 2) 4 area)
+number_at area None = None
 
-abbrev pub text_at : Option Attribute → Text
-text_at (Some a) = T.Set (a.at + 2) (a.size - 2)
-text_at None = T.Unchanged
+abbrev pub text_at : Option Attribute → Option Span
+text_at (Some a) = Some (record { at = a.at + 2; size = a.size - 2 })
+text_at None = None
 
 -- the rates that a type 26 sets; one that is another vendor's or not well-formed sets none, and does not come here (401, 404)
 abbrev pub rates_by : Vendor → Rates
@@ -42,10 +39,6 @@ rates_at area None = unset
 unfoldable pub rates_named : List ℕ → Rates
 rates_named area = rates_at area (first_of (kind_is 26) (attributes area))
 
-abbrev pub rate_number : Option ℕ → Number
-rate_number None = N.Unchanged
-rate_number (Some v) = N.Set v
-
 -- what a CoA names: Session-Timeout (27), Idle-Timeout (28), Filter-Id (11), and the two rates of Vendor-Specific (26)
 unfoldable pub alteration_of : List ℕ → Alteration
 alteration_of area =
@@ -53,8 +46,8 @@ alteration_of area =
       timeout = number_at area (first_of (kind_is 27) (attributes area));
       idle = number_at area (first_of (kind_is 28) (attributes area));
       filter = text_at (first_of (kind_is 11) (attributes area));
-      down = rate_number (rates_named area).down;
-      up = rate_number (rates_named area).up;
+      down = (rates_named area).down;
+      up = (rates_named area).up;
     }
 
 -- a Disconnect (code 40) ends the sessions, a CoA alters them

@@ -2,97 +2,62 @@
 #![tactic(auto)]
 
 mod rates; // rates.rt: the rates of a type 26
-mod taken; // taken.rt: a criterion, a number or a text, from what the pass kept of its type
+mod taken; // taken.rt: where a value lies that the pass met, and the criterion and the number that it is
 
 ghost use Rattle.std.specs.Prelude.{◌≡◌, false};
 ghost use Rattle.attr_walk.specs.Attributes.{attributes, any};
 ghost use Rattle.table_criteria.specs.Meets.{listed};
-ghost use Rattle.attr_survey.specs.Survey.{Kept};
 ghost use Rattle.attr_types.specs.Types.{misfitting};
 ghost use Rattle.das_effects.specs.Taken.{taken_criteria};
 ghost use Rattle.das_effects.specs.Changes.{alteration_of, change_of};
 
+use attr_survey::Survey;
 use attr_types::{
     ACCT_SESSION_ID, CALLING_STATION_ID, FILTER_ID, FRAMED_IP_ADDRESS, IDLE_TIMEOUT, NAS_PORT,
     SESSION_TIMEOUT, USER_NAME,
 };
-use table_criteria::Field;
-use taken::with;
+use attr_vendor::Rates;
+use table_change::{Alteration, Change};
+use table_criteria::{Criteria, Field};
+use taken::{criterion, number, value_span};
 
-// The criteria of a request, from what the pass over its attributes kept: one for each of 1, 5, 8, 31, 44 that it has.
-pub fn criteria(count: &[u8; 256], ends: &[u16; 256], sizes: &[u8; 256]) -> table_criteria::Criteria
-    ensures { listed result ≡ taken_criteria count.now ends.now sizes.now }
+// The criteria of a surveyed request: one for each of 1, 5, 8, 31, 44 that it has.
+#[tactic(auto, unfolding(crate::specs::Taken::taken_criteria))]
+pub fn criteria(survey: &Survey) -> Criteria
+    ensures { listed result ≡ taken_criteria survey.now.noted }
 {
-    let none = table_criteria::Criterion {
-        field: Field::UserName,
-        at: 0,
-        size: 0,
-    };
-    let c = table_criteria::Criteria {
-        count: 0,
-        list: [none; 5],
-    };
-    let c = with(c, Field::UserName, USER_NAME, count, ends, sizes);
-    let c = with(c, Field::NasPort, NAS_PORT, count, ends, sizes);
-    let c = with(
-        c,
-        Field::FramedAddress,
-        FRAMED_IP_ADDRESS,
-        count,
-        ends,
-        sizes,
-    );
-    let c = with(
-        c,
-        Field::CallingStation,
-        CALLING_STATION_ID,
-        count,
-        ends,
-        sizes,
-    );
-    with(c, Field::SessionId, ACCT_SESSION_ID, count, ends, sizes)
+    [
+        criterion(survey, Field::UserName, USER_NAME),
+        criterion(survey, Field::NasPort, NAS_PORT),
+        criterion(survey, Field::FramedAddress, FRAMED_IP_ADDRESS),
+        criterion(survey, Field::CallingStation, CALLING_STATION_ID),
+        criterion(survey, Field::SessionId, ACCT_SESSION_ID),
+    ]
 }
 
 // What a CoA alters. Its numbers have their length (404 does not apply).
-fn alteration(
-    s: &[u8],
-    count: &[u8; 256],
-    ends: &[u16; 256],
-    sizes: &[u8; 256],
-) -> table_change::Alteration
-    requires { Kept s.now count.now ends.now sizes.now × (any misfitting (attributes s.now) ≡ false) }
-    ensures { result ≡ alteration_of s.now }
+fn alteration(survey: &Survey) -> Alteration
+    requires { any misfitting (attributes survey.now.area.now) ≡ false }
+    ensures { result ≡ alteration_of survey.now.area.now }
 {
-    let timeout = taken::number(s, SESSION_TIMEOUT, count, ends, sizes);
-    let idle = taken::number(s, IDLE_TIMEOUT, count, ends, sizes);
-    let filter = taken::text(FILTER_ID, count, ends, sizes);
-    let named = rates::named(s, count, ends, sizes);
-    let rate = named.down;
-    let down = rates::number(rate);
-    let rate = named.up;
-    let up = rates::number(rate);
-    table_change::Alteration {
-        timeout,
-        idle,
-        filter,
+    let Rates { down, up } = rates::named(survey);
+    Alteration {
+        timeout: number(survey, SESSION_TIMEOUT),
+        idle: number(survey, IDLE_TIMEOUT),
+        filter: value_span(survey, FILTER_ID),
         down,
         up,
     }
 }
 
-// What happens to the sessions that a request of this code names.
-pub fn change(
-    s: &[u8],
-    code: u8,
-    count: &[u8; 256],
-    ends: &[u16; 256],
-    sizes: &[u8; 256],
-) -> table_change::Change
-    requires { Kept s.now count.now ends.now sizes.now × (any misfitting (attributes s.now) ≡ false) }
-    ensures { result ≡ change_of code s.now }
+// What happens to the sessions that a surveyed request names.
+#[tactic(auto, unfolding(crate::specs::Changes::change_of))]
+pub fn change(survey: &Survey) -> Change
+    requires { any misfitting (attributes survey.now.area.now) ≡ false }
+    ensures { result ≡ change_of survey.now.code survey.now.area.now }
 {
-    if code == 40 {
-        return table_change::Change::End;
+    if survey.code == 40 {
+        return Change::End;
     }
-    table_change::Change::Alter(alteration(s, count, ends, sizes))
+    Change::Alter(alteration(survey))
 }

@@ -1,11 +1,10 @@
-// The rates that a request sets, from the first type 26 that the pass over its attributes kept.
+// The rates that a request sets, from the first type 26 that the pass over its attributes met.
 ghost use Rattle.std.specs.Prelude.{◌≡◌};
-ghost use Rattle.attr_survey.specs.Survey.{Kept};
-ghost use Rattle.das_effects.specs.Changes.{rates_by, rates_named, rate_number};
+ghost use Rattle.das_effects.specs.Changes.{rates_by, rates_named};
 
+use attr_survey::Survey;
 use attr_types::VENDOR_SPECIFIC;
 use attr_vendor::{Rates, UNSET, Vendor};
-use table_change::Number;
 
 // The rates that a type 26 sets.
 fn rates_by(x: Vendor) -> Rates
@@ -13,28 +12,17 @@ fn rates_by(x: Vendor) -> Rates
 {
     match x {
         Vendor::Other | Vendor::Faulty(_) => UNSET,
-        Vendor::Sets(h) => h,
+        Vendor::Sets(rates) => rates,
     }
 }
 
 // The rates that a request sets.
-pub fn named(s: &[u8], count: &[u8; 256], ends: &[u16; 256], sizes: &[u8; 256]) -> Rates
-    requires { Kept s.now count.now ends.now sizes.now }
-    ensures { result ≡ rates_named s.now }
+pub fn named(survey: &Survey) -> Rates
+    ensures { result ≡ rates_named survey.now.area.now }
 {
-    if attr_lookup::has(count, VENDOR_SPECIFIC) {
-        let v = attr_lookup::value_of(s, ends, sizes, VENDOR_SPECIFIC);
-        return rates_by(attr_vendor::vendor_of(v));
+    if attr_lookup::has(survey, VENDOR_SPECIFIC) {
+        let value = attr_lookup::value_of(survey, VENDOR_SPECIFIC);
+        return rates_by(attr_vendor::vendor_of(value));
     }
     UNSET
-}
-
-// A rate as a number that a CoA sets, or not.
-pub fn number(rate: Option<u32>) -> Number
-    ensures { result ≡ rate_number rate }
-{
-    match rate {
-        None => Number::Unchanged,
-        Some(v) => Number::Set(v),
-    }
 }

@@ -1,62 +1,40 @@
-// A criterion, a number or a text of a request, from what the pass over its attributes kept of the first of its type.
-ghost use Rattle.std.specs.Prelude.{◌≡◌, true, ◌++◌, length, ◌+◌, ◌≤◌, ◌<◌};
-ghost use Rattle.table_criteria.specs.Meets.{listed};
-ghost use Rattle.attr_survey.specs.Survey.{seen_at};
-ghost use Rattle.attr_lookup.specs.Lookup.{kept_place};
-ghost use Rattle.das_effects.specs.Taken.{if_there, taken_number, taken_text};
+// The first attribute of a type, from what a pass kept of it: where its value lies, and the criterion or the number that it is.
+ghost use Rattle.std.specs.Prelude.{◌≡◌, length, ◌+◌, ◌≤◌, Some};
+ghost use Rattle.octet_runs.specs.declared.span.Span.{Span};
+ghost use Rattle.das_effects.specs.Taken.{taken_value, if_there, taken_number};
 
-// The criteria c, and one more where the type is there.
-pub fn with(
-    c: table_criteria::Criteria,
-    field: table_criteria::Field,
-    kind: u8,
-    count: &[u8; 256],
-    ends: &[u16; 256],
-    sizes: &[u8; 256],
-) -> table_criteria::Criteria
-    requires { c.count < 5 }
-    ensures { (listed result ≡ listed c ++ if_there field kind count.now ends.now sizes.now) × (result.count ≤ c.count + 1) }
+use attr_lookup::{has, place_of, size_of};
+use attr_survey::Survey;
+use octet_runs::Span;
+use table_criteria::{Criterion, Field};
+
+// Where the value of the first of this type lies.
+#[tactic(auto, unfolding(crate::specs::Taken::taken_value))]
+pub fn value_span(survey: &Survey, kind: u8) -> Option<Span>
+    ensures { result ≡ taken_value kind survey.now.noted }
 {
-    if attr_lookup::has(count, kind) {
-        let at = attr_lookup::place_of(ends, sizes, kind);
-        let size = attr_lookup::size_of(sizes, kind);
-        let n = c.count;
-        let mut list = c.list;
-        list[n] = table_criteria::Criterion { field, at, size };
-        return table_criteria::Criteria { count: n + 1, list };
+    if has(survey, kind) {
+        return Some(Span {
+            at: place_of(survey, kind),
+            size: size_of(survey, kind),
+        });
     }
-    c
+    None
 }
 
-// A number that a CoA sets.
-pub fn number(
-    s: &[u8],
-    kind: u8,
-    count: &[u8; 256],
-    ends: &[u16; 256],
-    sizes: &[u8; 256],
-) -> table_change::Number
-    requires { (seen_at count.now kind ≡ true → kept_place kind ends.now sizes.now + 4 ≤ length s.now) }
-    ensures { result ≡ taken_number s.now kind count.now ends.now sizes.now }
+// That a field must have this value.
+pub fn criterion(survey: &Survey, field: Field, kind: u8) -> Option<Criterion>
+    ensures { result ≡ if_there field kind survey.now.noted }
 {
-    if attr_lookup::has(count, kind) {
-        return table_change::Number::Set(octet_numbers::be32(
-            s,
-            attr_lookup::place_of(ends, sizes, kind),
-        ));
-    }
-    table_change::Number::Unchanged
+    let value = value_span(survey, kind)?;
+    Some(Criterion { field, value })
 }
 
-// A text that a CoA sets.
-pub fn text(kind: u8, count: &[u8; 256], ends: &[u16; 256], sizes: &[u8; 256]) -> table_change::Text
-    ensures { result ≡ taken_text kind count.now ends.now sizes.now }
+// The number that a CoA sets by it.
+pub fn number(survey: &Survey, kind: u8) -> Option<u32>
+    requires { (v : Span) → taken_value kind survey.now.noted ≡ Some v → v.at + 4 ≤ length survey.now.area.now }
+    ensures { result ≡ taken_number survey.now.area.now kind survey.now.noted }
 {
-    if attr_lookup::has(count, kind) {
-        return table_change::Text::Set(
-            attr_lookup::place_of(ends, sizes, kind),
-            attr_lookup::size_of(sizes, kind),
-        );
-    }
-    table_change::Text::Unchanged
+    let value = value_span(survey, kind)?;
+    Some(octet_numbers::be32(survey.area, value.at))
 }

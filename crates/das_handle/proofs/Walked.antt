@@ -11,7 +11,8 @@ use lib.IntN.{ℤ}
 use Rattle.table_slots.specs.Slot.{slot_count}
 use Rattle.table_slots.specs.Marks.{marks_after}
 use Rattle.table_change.specs.Change.{count_marked}
-use Rattle.rule_causes.specs.declared.Cause.TheVariants.{SessionNotFound, NoCause}
+use Rattle.std.specs.Prelude.{Some, None}
+use Rattle.rule_causes.specs.declared.cause.Cause.TheVariants.{SessionNotFound}
 use Rattle.packet_form.specs.Packet.{code_of, area_of}
 use Rattle.das_reply_parts.specs.Reply.{reply_length}
 use Rattle.das_effects.specs.Matching.{matches_in, match_count}
@@ -35,4 +36,4 @@ module _ (p t m : List ℕ) (walked : m ≡ marks_after (matches_in (area_of p) 
   pub commit_table_lem : (skew : ℤ) → commit_table p m t ≡ table_as p t (commit_answer p m t skew)
   unfolding commit_answer count_answer
   commit_table_lem skew =
-      by_count (eqb (count_marked m (slot_count t) t) 0) (count_marked m (slot_count t) t) (reply_length p SessionNotFound) (reply_length p NoCause) skew refl refl
+      by_count (eqb (count_marked m (slot_count t) t) 0) (count_marked m (slot_count t) t) (reply_length p (Some SessionNotFound)) (reply_length p None) skew refl refl

@@ -1,6 +1,7 @@
 -- A whole request: refusals R1 to R4, discards D1 to D6, causes 1 to 7, else ACK (document 01; demand 2).
 -- Assumes nothing.
-use Rattle.std.specs.Prelude.{cond, List, ℕ, eqb}
+use Rattle.std.specs.Prelude.{List, ℕ, ℤ, Option, Some, None, Result, Ok, Err}
+use Rattle.refusals.specs.declared.Refusal.{Refusal}
 use Rattle.rule_verdict.specs.declared.Verdict as R
 use Rattle.packet_form.specs.Packet.{code_of, area_of}
 use Rattle.nas_settings.specs.Settings.{Settings}
@@ -12,30 +13,30 @@ use Rattle.das_answer.specs.declared.Answer as D
 use Rattle.das_answer.specs.declared.Answer.TheVariants as A
 use Rattle.das_answer.specs.Commit.{count_answer}
 use Rattle.das_answer.specs.Replies.{reply_as}
-use Rattle.das_judge.specs.declared.Judged as G
-use Rattle.das_judge.specs.declared.Judged.TheVariants.{Ended, Passed}
 use Rattle.das_judge.specs.Judged.{judged_as}
 use Rattle.das_handle.specs.Refusals.{refusal_of}
 
 -- the answer to the request p: where causes 1 to 6 passed, the live sessions that match decide
-abbrev pub answer_as : List ℕ → List ℕ → G.Judged → D.Answer
-answer_as p t (Ended a) = a
-answer_as p t (Passed skew) = count_answer p (match_count (area_of p) t) skew
+abbrev pub answer_as : List ℕ → List ℕ → Result ℤ D.Answer → D.Answer
+answer_as p t (Err a) = a
+answer_as p t (Ok skew) = count_answer p (match_count (area_of p) t) skew
 
 -- that of a verdict
 abbrev pub answer_of : List ℕ → List ℕ → R.Verdict → D.Answer
 answer_of p t v = answer_as p t (judged_as p v)
 
+-- a refusal comes before the answer a
+abbrev pub unless_refused : Option Refusal → D.Answer → D.Answer
+unless_refused (Some r) a = A.Refused r
+unless_refused None a = a
+
 -- a refusal returns its number alone, before any judgement of the packet
 unfoldable pub handle_answer : Settings → List ℕ → List ℕ → List ℕ → ℕ → D.Answer
-handle_answer g t b p clock =
-    cond (eqb (refusal_of g t b) 0)
-    (answer_of p t (verdict_of g (signed_by g.secret p) p clock))
-    (A.Refused (refusal_of g t b))
+handle_answer g t b p clock = unless_refused (refusal_of g t b) (answer_of p t (verdict_of g (signed_by g.secret p) p clock))
 
 -- only an ACK writes the table
 abbrev pub table_as : List ℕ → List ℕ → D.Answer → List ℕ
-table_as p t (A.Refused n) = t
+table_as p t (A.Refused r) = t
 table_as p t (A.Discarded d) = t
 table_as p t (A.Stale skew) = t
 table_as p t (A.Nak c skew n) = t

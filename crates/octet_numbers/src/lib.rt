@@ -1,7 +1,7 @@
 // Numbers in bytes, read and written, high byte first.
 #![tactic(auto)]
 
-ghost use Rattle.std.specs.Prelude.{◌≡◌, [], ◌∷◌, ◌+◌, ◌≤◌, length};
+ghost use Rattle.std.specs.Prelude.{◌≡◌, ◌+◌, ◌≤◌, length};
 ghost use Rattle.octet_numbers.specs.Numbers.{be, be_bytes};
 ghost use Rattle.octet_numbers.specs.Runs.{write};
 
@@ -27,14 +27,6 @@ pub fn put_be16(t: &mut [u8], at: usize, v: u16)
     ensures { t.new ≡ write t.old at (be_bytes 2 v) }
 {
     t[at..at + 2].copy_from_slice(&v.to_be_bytes());
-}
-
-// Writes four bytes.
-pub fn put4(t: &mut [u8], at: usize, a: u8, b: u8, c: u8, d: u8)
-    requires { at + 4 ≤ length t.old }
-    ensures { t.new ≡ write t.old at (a ∷ b ∷ c ∷ d ∷ []) }
-{
-    t[at..at + 4].copy_from_slice(&[a, b, c, d]);
 }
 
 // Writes v in four bytes: all 32 bits.

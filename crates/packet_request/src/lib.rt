@@ -9,6 +9,7 @@ use attr_survey::Survey;
 use packet_form::Packet;
 
 // A packet that meets none of D1 to D3, and the survey of its attributes.
+#[derive(Drop)]
 pub struct Request<'a> {
     pub packet: Packet<'a>,
     pub survey: Survey<'a>,

@@ -32,7 +32,7 @@ pub extern "C" fn probe_table_live(t: &[u8], k: usize) -> u32
 pub extern "C" fn probe_table_match(t: &[u8], k: usize, area: &[u8], criteria: &[u8]) -> u32
     ensures { result ≡ truth (matches_at area.now (listed (criteria_of criteria.now)) t.now k) }
 {
-    u32::from(table_match::match_slot(t, k, area, given::criteria_of(criteria)))
+    u32::from(table_match::match_slot(t, k, area, &given::criteria_of(criteria)))
 }
 
 // The marks of all slots; refused where there is not room for 64, and no more.
@@ -45,7 +45,7 @@ pub extern "C" fn probe_table_marks(t: &[u8], area: &[u8], criteria: &[u8], mark
     if marks.len() != 64 {
         return 1;
     }
-    let m = table_match::mark_all(t, area, given::criteria_of(criteria));
+    let m = table_match::mark_all(t, area, &given::criteria_of(criteria));
     octet_copies::copy(marks, 0, &m);
     0
 }

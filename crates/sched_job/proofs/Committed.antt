@@ -13,12 +13,12 @@ use Rattle.std.specs.Prelude.{Option, Some, None}
 use Rattle.attr_walk.specs.Attributes.{attributes, any, found, first_of, on_first, kind_is}
 use Rattle.attr_walk.proofs.Searches.{only}
 use Rattle.attr_types.specs.Types.{misfitting, first_repeated, none}
-use Rattle.attr_survey.specs.Survey.{Kept, size_of}
+use Rattle.attr_survey.specs.Survey.{size_of}
 use Rattle.attr_types.proofs.Repeats.{at_most_once}
 use Rattle.rule_stamp.specs.Stamp.{skew_of}
-use Rattle.rule_causes.specs.declared.Cause.{Cause}
+use Rattle.rule_causes.specs.declared.cause.Cause.{Cause}
 use Rattle.packet_form.specs.Packet.{area_of}
-use Rattle.packet_form.specs.Discards.{form_of, Sized}
+use Rattle.packet_form.specs.Discards.{Sized}
 use Rattle.das_reply_parts.specs.Reply.{reply_length}
 use Rattle.das_reply.proofs.Fitting.{reply_short}
 use Rattle.das_reply.proofs.Judged.{stamp_six}
@@ -38,23 +38,14 @@ right_first : (x : Option Attribute) → on_first (λ a. not (eqb a.size 18)) x 
 right_first (Some a) h g = size_right (eqb a.size 18) a.size refl h
 right_first None h g = absurd (false≢true g)
 
-module _ (n v : ℕ) (q : List ℕ) (count ends sizes : List ℕ) (x : Stands n q v count ends sizes) where
+module _ (v : ℕ) (q : List ℕ) (x : Stands q v) where
   eighteen : any (kind_is 80) (attributes (area_of q)) ≡ true → size_of (first_of (kind_is 80) (attributes (area_of q))) ≡ 18
   eighteen g =
       let few = at_most_once (attributes (area_of q)) x.once 80 (λ e. omega arith) in
       right_first (first_of (kind_is 80) (attributes (area_of q))) (sym (only (kind_is 80) (λ a. not (eqb a.size 18)) (attributes (area_of q)) few) ∙ x.plain) g
 
-  pub stands_short : (c : Cause) → reply_length q c ≤ 4096
-  stands_short c = reply_short q n c x.sized (stamp_six (area_of q) v x.stamp) eighteen
-
-  pub stands_sized : Sized q n
-  stands_sized = x.sized
-
-  pub stands_form : form_of q ≡ 0
-  stands_form = x.form
-
-  pub stands_kept : Kept (area_of q) count ends sizes
-  stands_kept = x.kept
+  pub stands_short : (n : ℕ) → Sized q n → (c : Option Cause) → reply_length q c ≤ 4096
+  stands_short n z c = reply_short q n c z (stamp_six (area_of q) v x.stamp) eighteen
 
   pub stands_fits : any misfitting (attributes (area_of q)) ≡ false
   stands_fits = x.fits

@@ -8,7 +8,9 @@ use native.Mathlib.Omega.{arith}
 use lib.ListN.{set}
 use Rattle.attr_walk.specs.Attributes.{attributes, found}
 use Rattle.attr_types.specs.Types.{first_repeated, none}
+use Rattle.attr_survey.specs.declared.counts.Noted.{Noted}
 use Rattle.attr_survey.specs.Survey.{Kept}
+use Rattle.attr_survey.proofs.Areas.{kept_of}
 use Rattle.table_criteria.specs.declared.Criterion.{Criterion}
 use Rattle.table_slots.specs.Slot.{slot, slot_count}
 use Rattle.table_criteria.specs.Meets.{matches_at}
@@ -24,9 +26,9 @@ use Rattle.sched_job.specs.Moves.{match_job}
 pub slot_below : (t : List ℕ) (k : ℕ) → k < slot_count t → k < 64
 slot_below t k h = let c = counted t in omega arith
 
-pub match_law : (q s t : List ℕ) (k : ℕ) (cs : List Criterion) (count ends sizes : List ℕ) (r : Bool) → s ≡ area_of q → cs ≡ taken_criteria count ends sizes → r ≡ matches_at s cs t k
-    → Kept (area_of q) count ends sizes → found (first_repeated none (attributes (area_of q))) ≡ false → r ≡ matches_in (area_of q) t k
-match_law q s t k cs count ends sizes r area kept e i once = e ∙ rw (area, kept) (kept_match (area_of q) (slot k t) count ends sizes i once)
+pub match_law : (q s t : List ℕ) (k : ℕ) (cs : List Criterion) (noted : List Noted) (r : Bool) → s ≡ area_of q → cs ≡ taken_criteria noted → r ≡ matches_at s cs t k
+    → Kept s noted → found (first_repeated none (attributes (area_of q))) ≡ false → r ≡ matches_in (area_of q) t k
+match_law q s t k cs noted r area kept e i once = e ∙ rw (area, kept) (kept_match (area_of q) (slot k t) noted (kept_of s (area_of q) area noted i) once)
 
 module _ (j : Job) (q t : List ℕ) (k : ℕ) (b : Bool) (is : b ≡ matches_in (area_of q) t k) where
   pub match-marks : b ≡ true → record { stage = Match (k + 1); words = j.words; marks = set j.marks k 1; length = j.length; clock = j.clock } ≡ match_job j k q t

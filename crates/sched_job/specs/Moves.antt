@@ -1,10 +1,9 @@
 -- The moves of a job (document 01, "The desk": Hash, Check, Match, Commit). g is what the scheduler was made with, q the job's part of the store, t the table.
 -- Assumes nothing.
-use Rattle.std.specs.Prelude.{cond, List, ℕ, ◌+◌, ltb, ℤ, pos, length, set}
+use Rattle.std.specs.Prelude.{cond, List, ℕ, ◌+◌, ltb, ℤ, pos, length, set, Option, Some, None, Result, Ok, Err}
+use Rattle.refusals.specs.declared.Discard.TheVariants as R
 use Rattle.packet_blocks.specs.Block.{block_count, hashed}
 use Rattle.table_slots.specs.Slot.{slot_count}
-use Rattle.rule_stamp.specs.declared.Stamp as T
-use Rattle.rule_stamp.specs.declared.Stamp.TheVariants.{Usable, Unusable}
 use Rattle.rule_stamp.specs.Stamp.{stamp_of, skew_of}
 use Rattle.packet_form.specs.Packet.{area_of}
 use Rattle.nas_settings.specs.Settings.{Settings}
@@ -13,14 +12,10 @@ use Rattle.das_answer.specs.declared.Answer as D
 use Rattle.das_answer.specs.declared.Answer.TheVariants as A
 use Rattle.das_answer.specs.Replies.{reply_as}
 use Rattle.das_answer.specs.Commit.{commit_answer, commit_table}
-use Rattle.das_judge.specs.declared.Judged as G
-use Rattle.das_judge.specs.declared.Judged.TheVariants.{Ended, Passed}
 use Rattle.sched_reread.specs.Check.{store_judged}
 use Rattle.sched_job.specs.declared.Job as B
 use Rattle.sched_job.specs.declared.Stage as S
 use Rattle.sched_job.specs.declared.Stage.TheVariants.{Free, Hash, Check, Match}
-use Rattle.sched_job.specs.declared.Ending as E
-use Rattle.sched_job.specs.declared.Ending.TheVariants.{Going, Done}
 use Rattle.sched_job.specs.declared.Moved as M
 use Rattle.packet_words.specs.Words.{words_of, hash_state}
 use Rattle.sched_job.specs.Job.{free_job, at_first_slot}
@@ -28,10 +23,10 @@ use Rattle.sched_reread.specs.Reread.{holds_passed}
 
 -- it goes on; it is finished, and free again
 abbrev pub going : B.Job → M.Moved
-going j = record { job = j; ending = Going }
+going j = record { job = j; ending = None }
 
 abbrev pub done : D.Answer → M.Moved
-done a = record { job = free_job; ending = Done a }
+done a = record { job = free_job; ending = Some a }
 
 -- Hash: block k, from the words as held, the kept Length and the store as it stands; after the last block comes Check
 unfoldable pub hash_job : List ℕ → B.Job → ℕ → List ℕ → B.Job
@@ -45,9 +40,9 @@ hash_job secret j k q =
     }
 
 -- what Check comes to: an answer ends the job, what passed goes on to slot 0
-abbrev pub checked_as : B.Job → G.Judged → M.Moved
-checked_as j (Ended a) = done a
-checked_as j (Passed skew) = going (at_first_slot j)
+abbrev pub checked_as : B.Job → Result ℤ D.Answer → M.Moved
+checked_as j (Err a) = done a
+checked_as j (Ok skew) = going (at_first_slot j)
 
 -- Check by the words, Length and clock as kept
 unfoldable pub check_move : Settings → B.Job → List ℕ → M.Moved
@@ -59,9 +54,9 @@ match_job j k q t =
     record { stage = Match (k + 1); words = j.words; marks = cond (matches_in (area_of q) t k) (set j.marks k 1) j.marks; length = j.length; clock = j.clock }
 
 -- the skew at Commit: the stamp in the store then, minus the kept clock
-abbrev pub skew_at : T.Stamp → ℕ → ℤ
-skew_at (Usable v) clock = skew_of v clock
-skew_at Unusable clock = pos 0  -- does not come: the re-reading asks for type 55
+abbrev pub skew_at : Option ℕ → ℕ → ℤ
+skew_at (Some v) clock = skew_of v clock
+skew_at None clock = pos 0  -- does not come: the re-reading asks for type 55
 
 -- Commit, by the marks as held: 503, or changes and ACK
 unfoldable pub commit_move : B.Job → List ℕ → List ℕ → M.Moved
@@ -72,7 +67,7 @@ unfoldable pub slot_move : Settings → B.Job → ℕ → List ℕ → List ℕ 
 slot_move g j k q t =
     cond (holds_passed g j.length q)
     (cond (ltb k (slot_count t)) (going (match_job j k q t)) (commit_move j q t))
-    (done (A.Discarded 1))
+    (done (A.Discarded R.Length))
 
 unfoldable pub slot_table : Settings → B.Job → ℕ → List ℕ → List ℕ → List ℕ
 slot_table g j k q t = cond (holds_passed g j.length q) (cond (ltb k (slot_count t)) t (commit_table q j.marks t)) t
@@ -97,6 +92,6 @@ unfoldable pub moved_table : Settings → B.Job → List ℕ → List ℕ → Li
 moved_table g j q t = moved_table_at g j.stage j q t
 
 -- the reply buffer after a move: only a step that finishes in ACK or NAK writes it
-abbrev pub reply_after : List ℕ → List ℕ → List ℕ → E.Ending → List ℕ
-reply_after secret q b Going = b
-reply_after secret q b (Done a) = reply_as secret q b a
+abbrev pub reply_after : List ℕ → List ℕ → List ℕ → Option D.Answer → List ℕ
+reply_after secret q b None = b
+reply_after secret q b (Some a) = reply_as secret q b a

@@ -11,26 +11,19 @@ impl Job {
         requires { (20 ≤ self.length) × (self.length ≤ length q.now) × (self.length ≤ 4096) × (length secret.now ≤ 64) × (k < block_count (self.length + length secret.now)) }
         ensures { result ≡ hash_job secret.now self k q.now }
     {
-        let held = self.words;
-        let marks = self.marks;
-        let n = self.length;
         let next = k + 1;
-        let words = packet_words::after_block(held, q, n, secret, k);
-        if next < packet_blocks::block_count(n + secret.len()) {
+        let words = packet_words::after_block(self.words, q, self.length, secret, k);
+        if next < packet_blocks::block_count(self.length + secret.len()) {
             return Job {
                 stage: Stage::Hash(next),
                 words,
-                marks,
-                length: n,
-                clock: self.clock,
+                ..self
             };
         }
         Job {
             stage: Stage::Check,
             words,
-            marks,
-            length: n,
-            clock: self.clock,
+            ..self
         }
     }
 }

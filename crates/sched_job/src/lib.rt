@@ -10,7 +10,10 @@ ghost use Rattle.std.specs.Prelude.{◌≡◌};
 ghost use Rattle.sched_job.specs.Job.{free_job, first_job, at_first_slot, is_open};
 ghost use Rattle.sched_job.specs.Moves.{going, done};
 
-#[derive(Clone, Copy)]
+use das_answer::Answer;
+
+// What a job's next step does.
+#[derive(Clone, Copy, Debug, PartialEq, Eq)]
 pub enum Stage {
     Free,
     Hash(usize),
@@ -28,21 +31,15 @@ pub struct Job {
     pub clock: u32,
 }
 
-// Whether a step finished the job.
-#[derive(Clone, Copy)]
-pub enum Ending {
-    Going,
-    Done(das_answer::Answer),
-}
-
 // A job after a step, with the answer where it is finished.
 #[derive(Clone, Copy)]
 pub struct Moved {
     pub job: Job,
-    pub ending: Ending,
+    pub ending: Option<Answer>,
 }
 
 // A free job.
+#[tactic(auto, unfolding(table_slots::specs::Marks::no_marks))]
 pub fn free() -> Job
     ensures { result ≡ free_job }
 {
@@ -72,19 +69,16 @@ pub fn first(n: usize, clock: u32) -> Job
 pub fn going(job: Job) -> Moved
     ensures { result ≡ going job }
 {
-    Moved {
-        job,
-        ending: Ending::Going,
-    }
+    Moved { job, ending: None }
 }
 
 // What a step gives that finished its job with this answer: the job is free again.
-pub fn done(answer: das_answer::Answer) -> Moved
+pub fn done(answer: Answer) -> Moved
     ensures { result ≡ done answer }
 {
     Moved {
         job: free(),
-        ending: Ending::Done(answer),
+        ending: Some(answer),
     }
 }
 
@@ -92,26 +86,18 @@ impl Job {
     pub fn is_open(self) -> bool
         ensures { result ≡ is_open self.stage }
     {
-        let stage = self.stage;
-        match stage {
-            Stage::Free => false,
-            Stage::Hash(_) => true,
-            Stage::Check => true,
-            Stage::Match(_) => true,
-        }
+        !matches!(self.stage, Stage::Free)
     }
 
     // At slot 0, with no marks.
+    #[tactic(auto, unfolding(table_slots::specs::Marks::no_marks))]
     fn at_first_slot(self) -> Job
         ensures { result ≡ at_first_slot self }
     {
-        let words = self.words;
         Job {
             stage: Stage::Match(0),
-            words,
             marks: [0u8; 64],
-            length: self.length,
-            clock: self.clock,
+            ..self
         }
     }
 }

@@ -8,23 +8,22 @@ ghost use Rattle.sched_job.specs.Job.{free_job};
 ghost use Rattle.sched_state.specs.Refusals.{make_refusal};
 ghost use Rattle.sched_rows.specs.Layout.{held, kind_row, place_row};
 ghost use Rattle.sched_rows.specs.Left.{make_left};
+ghost use Rattle.sched_rows.specs.Lent.{SameRows};
+
+use sched_rows::Rows;
 
 // The rows of four free jobs.
-fn free_all(
-    words: &mut [[u32; 4]; 4],
-    kinds: &mut [[u32; 2]; 4],
-    places: &mut [[usize; 2]; 4],
-    marks: &mut [[u8; 64]; 4],
-)
-    ensures words_after { words.new ≡ replicate 4 free_job.words }
-    ensures kinds_after { kinds.new ≡ replicate 4 (kind_row free_job) }
-    ensures places_after { places.new ≡ replicate 4 (place_row free_job) }
-    ensures marks_after { marks.new ≡ replicate 4 free_job.marks }
+fn free_all(rows: &mut Rows<'_>)
+    ensures same { SameRows rows.old rows.new }
+    ensures words_after { rows.new.words.now ≡ replicate 4 free_job.words }
+    ensures kinds_after { rows.new.kinds.now ≡ replicate 4 (kind_row free_job) }
+    ensures places_after { rows.new.places.now ≡ replicate 4 (place_row free_job) }
+    ensures marks_after { rows.new.marks.now ≡ replicate 4 free_job.marks }
 {
-    *words = [[0u32; 4]; 4];
-    *kinds = [[0u32; 2]; 4];
-    *places = [[0usize; 2]; 4];
-    *marks = [[0u8; 64]; 4];
+    *rows.words = [[0u32; 4]; 4];
+    *rows.kinds = [[0u32; 2]; 4];
+    *rows.places = [[0usize; 2]; 4];
+    *rows.marks = [[0u8; 64]; 4];
 }
 
 // s, and zeros after it.
@@ -37,12 +36,9 @@ fn keep(room: &mut [u8], s: &[u8])
     octet_copies::copy(room, 0, s);
 }
 
-// R2, R3, or a scheduler.
+// R2, R3, or a scheduler. What is fixed then is written to the five places that C lends.
 pub fn make(
-    words: &mut [[u32; 4]; 4],
-    kinds: &mut [[u32; 2]; 4],
-    places: &mut [[usize; 2]; 4],
-    marks: &mut [[u8; 64]; 4],
+    rows: &mut Rows<'_>,
     kept: &mut [u8; 64],
     size: &mut usize,
     nas_ip: &mut u32,
@@ -52,8 +48,9 @@ pub fn make(
     ip: u32,
     nas_id: &[u8],
 ) -> u32
+    ensures same { SameRows rows.old rows.new }
     ensures value { result ≡ make_refusal (settings secret.now ip nas_id.now) }
-    ensures label_after { held words.new kinds.new places.new marks.new kept.new size.new nas_ip.new own.new label.new ≡ make_left (settings secret.now ip nas_id.now) (held words.old kinds.old places.old marks.old kept.old size.old nas_ip.old own.old label.old) }
+    ensures label_after { held rows.new.words.now rows.new.kinds.now rows.new.places.now rows.new.marks.now kept.new size.new nas_ip.new own.new label.new ≡ make_left (settings secret.now ip nas_id.now) (held rows.old.words.now rows.old.kinds.now rows.old.places.now rows.old.marks.now kept.old size.old nas_ip.old own.old label.old) }
 {
     if nas_settings::bad_secret(secret) {
         return 2;
@@ -61,7 +58,7 @@ pub fn make(
     if nas_settings::bad_nas_id(nas_id) {
         return 3;
     }
-    free_all(words, kinds, places, marks);
+    free_all(rows);
     keep(kept, secret);
     keep(own, nas_id);
     *size = secret.len();

@@ -1,21 +1,20 @@
 -- Match or Commit: what the re-reading told decides first, then whether the place is a slot of the table.
 -- Assumes nothing.
 use mathlib.Core.Path.{◌≡◌, ap, ◌∙◌}
-use mathlib.Core.Bool.{cond}
+use mathlib.Core.Bool.{true, false, cond}
+use Rattle.refusals.specs.declared.Discard.TheVariants as R
 use mathlib.Core.List.{List}
 use Prim.Native.Nat.{ℕ, ◌≤◌, ◌<◌}
 use borrow.Author.Tests.{lt-ltb, le-ltb}
 use lib.Dec.{ltb}
 use Rattle.table_slots.specs.Slot.{slot_count}
-use Rattle.nas_settings.specs.Settings.{settings}
+use Rattle.nas_settings.specs.Settings.{Settings}
 use Rattle.das_answer.specs.declared.Answer.TheVariants as A
 use Rattle.das_answer.specs.Commit.{commit_table}
 use Rattle.sched_job.specs.declared.Job.{Job}
 use Rattle.sched_job.specs.declared.Moved.{Moved}
-use Rattle.sched_reread.specs.declared.Again as D
-use Rattle.sched_reread.specs.declared.Again.TheVariants.{Gone, Held}
-use Rattle.sched_job.specs.Moves.{going, done, match_job, commit_move, slot_move, slot_table}
-use Rattle.sched_reread.specs.Again.{Stands, Shown}
+use Rattle.sched_job.specs.Moves.{going, done, match_job, commit_move, slot_move, slot_table, reply_after}
+use Rattle.sched_reread.specs.Reread.{holds_passed}
 
 -- ---- by the place
 
@@ -35,26 +34,26 @@ module _ (j : Job) (q t : List ℕ) (k m : ℕ) (is : m ≡ slot_count t) where
   pub commit_table_lem : m ≤ k → (u : List ℕ) → u ≡ commit_table q j.marks t → u ≡ cond (ltb k (slot_count t)) t (commit_table q j.marks t)
   commit_table_lem h u e = e ∙ rw (← is, le-ltb _ _ h)
 
--- ---- by the re-reading
+-- ---- by the re-reading: p is the packet that was read
 
-module _ (secret nas_id q t : List ℕ) (nas_ip k : ℕ) (j : Job) (count ends sizes : List ℕ) (x : D.Again) (shown : Shown nas_ip nas_id j.length q count ends sizes x) where
-  pub gone_move : x ≡ Gone → (r : Moved) → r ≡ done (A.Discarded 1) → r ≡ slot_move (settings secret nas_ip nas_id) j k q t
-  unfolding slot_move Shown
-  gone_move h r e = e ∙ rw ((rw h at shown) secret)
+module _ (g : Settings) (q t : List ℕ) (k : ℕ) (j : Job) where
+  module _ (gone : holds_passed g j.length q ≡ false) where
+    pub gone_move : (r : Moved) → r ≡ done (A.Discarded R.Length) → r ≡ slot_move g j k q t
+    unfolding slot_move
+    gone_move r e = e ∙ rw gone
 
-  pub gone_table : x ≡ Gone → t ≡ slot_table (settings secret nas_ip nas_id) j k q t
-  unfolding slot_table Shown
-  gone_table h = rw ((rw h at shown) secret)
+    pub gone_table : t ≡ slot_table g j k q t
+    unfolding slot_table
+    gone_table = rw gone
 
-  module _ (v : ℕ) (h : x ≡ Held v) where
-    pub held_stands : Stands j.length q v count ends sizes
-    unfolding Shown
-    held_stands = (rw h at shown).1
+  module _ (held : holds_passed g j.length q ≡ true) (p : List ℕ) (same : p ≡ q) where
+    pub held_move : (r : Moved) → r ≡ cond (ltb k (slot_count t)) (going (match_job j k p t)) (commit_move j p t) → r ≡ slot_move g j k q t
+    unfolding slot_move
+    held_move r e = e ∙ rw (same, held)
 
-    pub held_move : (r : Moved) → r ≡ cond (ltb k (slot_count t)) (going (match_job j k q t)) (commit_move j q t) → r ≡ slot_move (settings secret nas_ip nas_id) j k q t
-    unfolding slot_move Shown
-    held_move r e = e ∙ rw ((rw h at shown).0 secret)
+    pub held_table : (u : List ℕ) → u ≡ cond (ltb k (slot_count t)) t (commit_table p j.marks t) → u ≡ slot_table g j k q t
+    unfolding slot_table
+    held_table u e = e ∙ rw (same, held)
 
-    pub held_table : (u : List ℕ) → u ≡ cond (ltb k (slot_count t)) t (commit_table q j.marks t) → u ≡ slot_table (settings secret nas_ip nas_id) j k q t
-    unfolding slot_table Shown
-    held_table u e = e ∙ rw ((rw h at shown).0 secret)
+    pub held_reply : (secret b u : List ℕ) (r : Moved) → u ≡ reply_after secret p b r.ending → u ≡ reply_after secret q b r.ending
+    held_reply secret b u r e = e ∙ rw same

@@ -10,8 +10,9 @@ use lib.ListN.{length}
 use Rattle.packet_blocks.specs.Block.{block_count}
 use Rattle.table_slots.specs.Slot.{slot_count}
 use Rattle.nas_settings.specs.Settings.{Settings}
-use Rattle.das_judge.specs.declared.Judged.{Judged}
-use Rattle.das_judge.specs.declared.Judged.TheVariants.{Ended, Passed}
+use lib.IntN.{ℤ}
+use Rattle.std.specs.Prelude.{Result, Ok, Err}
+use Rattle.das_answer.specs.declared.Answer.{Answer}
 use Rattle.sched_reread.specs.Check.{store_judged}
 use Rattle.sched_job.specs.declared.Job.{Job}
 use Rattle.sched_job.specs.declared.Stage.TheVariants.{Free, Hash, Check, Match}
@@ -85,9 +86,9 @@ module _ (secret : List ℕ) (k : ℕ) (j : Job) (ours : JobOurs (length secret)
 pub ours_free : (s : ℕ) (j : Job) (r : Moved) → JobOurs s j → r ≡ going j → JobOurs s r.job
 ours_free s j r h e = rw e h
 
-checked_ours : (s : ℕ) (j : Job) (x : Judged) → JobOurs s (checked_as j x).job
-checked_ours s j (Ended a) = tt
-checked_ours s j (Passed k) = tt
+checked_ours : (s : ℕ) (j : Job) (x : Result ℤ Answer) → JobOurs s (checked_as j x).job
+checked_ours s j (Err a) = tt
+checked_ours s j (Ok k) = tt
 
 pub ours_check : (s : ℕ) (g : Settings) (j : Job) (q : List ℕ) (r : Moved) → r ≡ check_move g j q → JobOurs s r.job
 unfolding check_move

@@ -1,3 +1,4 @@
 mod NewJob
+mod Choosing
 mod Admitting
 mod Dropping

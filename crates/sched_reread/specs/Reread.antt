@@ -1,25 +1,18 @@
 -- Reading the part of the store again (document 01, "The desk": "Check, Match and Commit first read its part of the store again").
 -- n is the kept Length, q the job's part of the store.
 -- Assumes nothing.
-use Rattle.std.specs.Prelude.{Bool, true, false, not, ◌&&◌, List, ℕ, eqb}
+use Rattle.std.specs.Prelude.{Bool, not, ◌&&◌, List, ℕ, eqb, is_some, is_none}
 use Rattle.attr_walk.specs.declared.Attribute.{Attribute}
 use Rattle.attr_walk.specs.Attributes.{attributes, any, kind_is}
-use Rattle.rule_stamp.specs.declared.Stamp as T
-use Rattle.rule_stamp.specs.declared.Stamp.TheVariants.{Usable, Unusable}
 use Rattle.rule_stamp.specs.Stamp.{stamp_of}
-use Rattle.rule_causes.specs.Causes.{applies, cause_of}
+use Rattle.rule_causes.specs.Causes.{cause_of}
 use Rattle.packet_form.specs.Packet.{code_of, length_of, area_of}
 use Rattle.nas_settings.specs.Settings.{Settings}
 use Rattle.packet_form.specs.Discards.{form_of}
 
 -- none of D1 to D3 applies, and Length is the kept one
 unfoldable pub holds : ℕ → List ℕ → Bool
-holds n q = eqb (form_of q) 0 && eqb (length_of q) n
-
--- type 55 is there once with length 6
-abbrev pub usable : T.Stamp → Bool
-usable (Usable v) = true
-usable Unusable = false
+holds n q = is_none (form_of q) && eqb (length_of q) n
 
 -- a type 80 that is not of length 18
 abbrev pub odd_mac : Attribute → Bool
@@ -29,6 +22,6 @@ odd_mac a = kind_is 80 a && not (eqb a.size 18)
 unfoldable pub holds_passed : Settings → ℕ → List ℕ → Bool
 holds_passed g n q =
     holds n q
-    && (usable (stamp_of (area_of q))
+    && (is_some (stamp_of (area_of q))
     && (not (any odd_mac (attributes (area_of q)))
-    && not (applies (cause_of (code_of q) g.nas_ip g.nas_id (area_of q)))))
+    && is_none (cause_of (code_of q) g.nas_ip g.nas_id (area_of q))))

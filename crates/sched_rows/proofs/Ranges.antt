@@ -1,4 +1,4 @@
--- A job read from its numbers: each return of `between`, `block_in_lem` and `stage_in` is one arm of its definition, chosen by the same test.
+-- A job read from its numbers: each return of `block_in` and `stage_in` is one arm of its definition, chosen by the same test; a length is clamped.
 -- Assumes nothing.
 use mathlib.Core.Bool.{Bool, true, false}
 use mathlib.Core.Path.{◌≡◌, ◌∙◌, sym}
@@ -7,20 +7,12 @@ use lib.Dec.{ltb}
 use Rattle.std.specs.Prelude.{max, min}
 use native.Mathlib.Omega.{arith}
 use Rattle.std.proofs.lemmas.Bool.Decides.{nat_tests}
-use borrow.Author.Tests.{lt-ltb, le-ltb, le-leb, lt-leb, eq-eqb, ne_eqb}
+use borrow.Author.Tests.{le-ltb, le-leb, lt-leb, eq-eqb, ne_eqb}
 use Rattle.packet_blocks.specs.Block.{block_count}
 use Rattle.sched_job.specs.declared.Stage.TheVariants.{Free, Hash, Check, Match}
 use Rattle.sched_rows.specs.Layout.{between, block_in, stage_in}
 
 module _ (low high n : ℕ) where
-  pub below : n < low → low ≡ between low high n
-  unfolding between
-  below h = rw (lt-ltb n low h)
-
-  pub above : low ≤ n → high < n → high ≡ between low high n
-  unfolding between
-  above l h = rw (le-ltb n low l, lt-ltb high n h)
-
   pub inside : low ≤ n → n ≤ high → n ≡ between low high n
   unfolding between
   inside l h = rw (le-ltb n low l, le-ltb high n h)

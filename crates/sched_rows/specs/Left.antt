@@ -1,6 +1,6 @@
 -- What each call leaves of the arrays that C lends. A refusal, and a discard at opening, leave all of them as they were; what was fixed at making no call writes.
 -- Assumes nothing.
-use Rattle.std.specs.Prelude.{Bool, cond, List, [], ◌∷◌, ℕ, eqb, get_or, set}
+use Rattle.std.specs.Prelude.{Bool, cond, List, [], ◌∷◌, ℕ, eqb, get_or, set, is_none}
 use Rattle.table_slots.specs.Marks.{no_marks}
 use Rattle.table_records.specs.Record.{Session}
 use Rattle.nas_settings.specs.Settings.{Settings}
@@ -45,7 +45,7 @@ restart_held h =
 
 -- by a call's answer; b is the job that it leaves, j the number that it was given
 unfoldable pub left_by : O.Outcome → ℕ → B.Job → Held → Held
-left_by (Refused n) j b h = h
+left_by (Refused r) j b h = h
 left_by (Discarded d) j b h = h
 left_by (Opened i) j b h = put_job h i b
 left_by Going j b h = put_job h j b
@@ -56,7 +56,7 @@ left_by Ended j b h = restart_held h
 
 -- making writes all, where it does not refuse
 unfoldable pub make_left : Settings → Held → Held
-make_left g h = cond (eqb (make_refusal g) 0) (held_of (made_of g)) h
+make_left g h = cond (is_none (make_refusal g)) (held_of (made_of g)) h
 
 abbrev pub open_left : Held → List ℕ → ℕ → List ℕ → Held
 open_left h p clock store = left_by (open_called (scheduler_in h) p clock store).outcome 0 (first_job (length_of p) clock) h

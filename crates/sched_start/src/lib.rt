@@ -1,13 +1,17 @@
 // Session start and end, as calls on the scheduler: each sends the jobs past Check back to slot 0.
+// The rows are no struct here, since C lends words and kinds to be read alone.
 #![tactic(auto)]
 
-ghost use Rattle.std.specs.Prelude.{◌≡◌, length};
+ghost use Rattle.std.specs.Prelude.{◌≡◌};
 ghost use Rattle.table_records.specs.Record.{session_of};
 ghost use Rattle.table_sessions.specs.Session.{insert_table, remove_table};
 ghost use Rattle.sched_state.specs.Calls.{start_called, end_called};
-ghost use Rattle.sched_rows.specs.Layout.{held, scheduler_in};
+ghost use Rattle.sched_rows.specs.Layout.{scheduler_in};
 ghost use Rattle.sched_rows.specs.Left.{start_left, end_left};
+ghost use Rattle.sched_rows.specs.Lent.{held_with};
 ghost use Rattle.c_told.specs.Told.{number_by, place_by};
+
+use sched_rows::Made;
 
 // R1, R8, R9, R10, or a session in the lowest free slot.
 pub fn start(
@@ -15,11 +19,7 @@ pub fn start(
     kinds: &[[u32; 2]; 4],
     places: &mut [[usize; 2]; 4],
     marks: &mut [[u8; 64]; 4],
-    secret: &[u8; 64],
-    size: usize,
-    nas_ip: u32,
-    nas_id: &[u8; 32],
-    label: usize,
+    made: &Made<'_>,
     t: &mut [u8],
     port: u32,
     framed: u32,
@@ -31,10 +31,10 @@ pub fn start(
     filter: &[u8],
     slot: &mut u32,
 ) -> u32
-    ensures value { result ≡ number_by (start_called (scheduler_in (held words.now kinds.now places.old marks.old secret.now size nas_ip nas_id.now label)) (session_of port framed timeout idle user.now id.now station.now filter.now) t.old).outcome }
-    ensures label_after { held words.now kinds.now places.new marks.new secret.now size nas_ip nas_id.now label ≡ start_left (held words.now kinds.now places.old marks.old secret.now size nas_ip nas_id.now label) (session_of port framed timeout idle user.now id.now station.now filter.now) t.old }
+    ensures value { result ≡ number_by (start_called (scheduler_in (held_with words.now kinds.now places.old marks.old made.now)) (session_of port framed timeout idle user.now id.now station.now filter.now) t.old).outcome }
+    ensures marks_after { held_with words.now kinds.now places.new marks.new made.now ≡ start_left (held_with words.now kinds.now places.old marks.old made.now) (session_of port framed timeout idle user.now id.now station.now filter.now) t.old }
     ensures t_after { t.new ≡ insert_table (session_of port framed timeout idle user.now id.now station.now filter.now) t.old }
-    ensures slot_after { slot.new ≡ place_by (start_called (scheduler_in (held words.now kinds.now places.old marks.old secret.now size nas_ip nas_id.now label)) (session_of port framed timeout idle user.now id.now station.now filter.now) t.old).outcome slot.old }
+    ensures slot_after { slot.new ≡ place_by (start_called (scheduler_in (held_with words.now kinds.now places.old marks.old made.now)) (session_of port framed timeout idle user.now id.now station.now filter.now) t.old).outcome slot.old }
 {
     match table_sessions::insert(t, port, framed, timeout, idle, user, id, station, filter) {
         table_sessions::Inserted::Slot(k) => {
@@ -52,16 +52,12 @@ pub fn end(
     kinds: &[[u32; 2]; 4],
     places: &mut [[usize; 2]; 4],
     marks: &mut [[u8; 64]; 4],
-    secret: &[u8; 64],
-    size: usize,
-    nas_ip: u32,
-    nas_id: &[u8; 32],
-    label: usize,
+    made: &Made<'_>,
     t: &mut [u8],
     k: usize,
 ) -> u32
-    ensures value { result ≡ number_by (end_called (scheduler_in (held words.now kinds.now places.old marks.old secret.now size nas_ip nas_id.now label)) k t.old).outcome }
-    ensures label_after { held words.now kinds.now places.new marks.new secret.now size nas_ip nas_id.now label ≡ end_left (held words.now kinds.now places.old marks.old secret.now size nas_ip nas_id.now label) k t.old }
+    ensures value { result ≡ number_by (end_called (scheduler_in (held_with words.now kinds.now places.old marks.old made.now)) k t.old).outcome }
+    ensures marks_after { held_with words.now kinds.now places.new marks.new made.now ≡ end_left (held_with words.now kinds.now places.old marks.old made.now) k t.old }
     ensures t_after { t.new ≡ remove_table k t.old }
 {
     match table_sessions::remove(t, k) {

@@ -13,11 +13,11 @@ pub struct Scheduler {
     pub nas_id_size: usize,
 }
 
-// What a call answers: an R number; at opening a D number or the job; of a step that it goes on or what it came to; of a start the slot.
-#[derive(Clone, Copy)]
+// What a call answers: why it is refused; at opening why the packet is discarded, or the job; of a step that it goes on or what it came to; of a start the slot.
+#[derive(Clone, Copy, Debug, PartialEq, Eq)]
 pub enum Outcome {
-    Refused(u8),
-    Discarded(u8),
+    Refused(refusals::Refusal),
+    Discarded(refusals::Discard),
     Opened(usize),
     Going,
     Done(das_answer::Answer),

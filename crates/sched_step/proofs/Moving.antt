@@ -3,10 +3,9 @@
 use mathlib.Core.Path.{◌≡◌, ap, ◌∙◌}
 use mathlib.Core.Bool.{Bool, true, false}
 use mathlib.Core.List.{List}
-use Prim.Native.Nat.{ℕ, ◌*◌, ◌≤◌, ◌<◌}
+use Prim.Native.Nat.{ℕ, ◌*◌, ◌<◌}
 use native.Mathlib.Omega.{arith}
-use lib.ListN.{length, take, set}
-use lib.Seq.{length-take-le}
+use lib.ListN.{length, set}
 use Rattle.octet_numbers.proofs.Part.{length_part}
 use Rattle.nas_settings.specs.Settings.{settings}
 use Rattle.sched_job.specs.declared.Job as B
@@ -56,14 +55,3 @@ module _ (m : M.Moved) (j : ℕ) (a : Bool) (is : a ≡ ack_by m.ending) (ks ks'
     pub marks_not : a ≡ false → ms' ≡ marks_after m j ks ms
     unfolding marks_after
     marks_not f = rw (← is, f, em)
-
--- ---- the bytes that count
-
-pub secret_cut : (z : ℕ) (secret : List ℕ) → z ≤ 64 → length secret ≡ 64 → length (take z secret) ≡ z
-secret_cut z secret fits long = length-take-le z secret (omega (arith, fits, long))
-
-pub name_cut : (y : ℕ) (nas_id : List ℕ) → y ≤ 32 → length nas_id ≡ 32 → length (take y nas_id) ≡ y
-name_cut y nas_id fits long = length-take-le y nas_id (omega (arith, fits, long))
-
-pub secret_short : (z : ℕ) (secret : List ℕ) → z ≤ 64 → length secret ≡ 64 → length (take z secret) ≤ 64
-secret_short z secret fits long = rw (secret_cut z secret fits long) fits

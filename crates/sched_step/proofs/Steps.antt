@@ -4,12 +4,10 @@
 use mathlib.Core.Bool.{Bool, true, false, cond}
 use mathlib.Core.List.{List}
 use mathlib.Core.Path.{◌≡◌, refl, sym, ap, ◌∙◌}
-use Prim.Native.Nat.{ℕ, ◌≤◌}
-use native.Mathlib.Omega.{arith}
+use Prim.Native.Nat.{ℕ}
 use borrow.Author.Tests.{eq-eqb, ne_eqb}
 use lib.IntN.{ℤ}
 use lib.ListN.{length, take, set}
-use lib.Seq.{length-take-le}
 use Rattle.sched_job.specs.declared.Ending as E
 use Rattle.sched_job.specs.declared.Ending.TheVariants as K
 use Rattle.sched_job.specs.declared.Moved as M
@@ -75,17 +73,15 @@ module _ (ws ks ps ms : List (List ℕ)) (secret : List ℕ) (size nas_ip : ℕ)
   by_ending m K.Going is = rw is
   by_ending m (K.Done a) is = rw is (by_ack m (is_ack a))
 
-  module _ (t b store : List ℕ) (z y n : ℕ) (ez : z ≡ secret_in size) (ey : y ≡ nas_id_in label) (fits : z ≤ 64) (long : length secret ≡ 64)
-      (is : n ≡ step_refusal (open_at (jobs_in z ws ks ps ms)) (length store) j t b) where
+  -- x and y are the bytes of secret and name that count
+  module _ (t b store x y : List ℕ) (n : ℕ) (ex : x ≡ take (secret_in size) secret) (long : length x ≡ secret_in size)
+      (ey : y ≡ take (nas_id_in label) nas_id) (is : n ≡ step_refusal (open_at (jobs_in (length x) ws ks ps ms)) (length store) j t b) where
     read : n ≡ step_refusal (open_at (scheduler_in before).jobs) (length store) j t b
-    read = is ∙ rw ez
-
-    cut : length (take z secret) ≡ z
-    cut = length-take-le z secret (omega (arith, fits, long))
+    read = is ∙ rw long
 
     -- the job as moved
-    as_moved : rows_moved (take z secret) nas_ip (take y nas_id) ws ks ps ms j (part_of j store) t ≡ moved_of (scheduler_in before) j t store
-    as_moved = rw (cut, ez, ey)
+    as_moved : rows_moved x nas_ip y ws ks ps ms j (part_of j store) t ≡ moved_of (scheduler_in before) j t store
+    as_moved = rw (long, ex, ey)
 
     module _ (zero : n ≡ 0) where
       went : (step_called (scheduler_in before) j t b store).outcome ≡ outcome_of (moved_of (scheduler_in before) j t store).ending
@@ -93,12 +89,12 @@ module _ (ws ks ps ms : List (List ℕ)) (secret : List ℕ) (size nas_ip : ℕ)
       went = rw (← read, eq-eqb _ _ zero) (stepped_outcome (scheduler_in before) j (moved_of (scheduler_in before) j t store) (moved_of (scheduler_in before) j t store).ending)
 
       pub goes_told : (e : E.Ending) (v old : Told)
-          → e ≡ (rows_moved (take z secret) nas_ip (take y nas_id) ws ks ps ms j (part_of j store) t).ending → v ≡ told_by (outcome_of e) old
+          → e ≡ (rows_moved x nas_ip y ws ks ps ms j (part_of j store) t).ending → v ≡ told_by (outcome_of e) old
           → v ≡ told_by (step_called (scheduler_in before) j t b store).outcome old
       goes_told e v old ending tells =
           tells ∙ ap (λ (x : E.Ending). told_by (outcome_of x) old) (ending ∙ ap (λ (m : M.Moved). m.ending) as_moved) ∙ sym (ap (λ (o : O.Outcome). told_by o old) went)
 
-      module _ (m : M.Moved) (em : m ≡ rows_moved (take z secret) nas_ip (take y nas_id) ws ks ps ms j (part_of j store) t) where
+      module _ (m : M.Moved) (em : m ≡ rows_moved x nas_ip y ws ks ps ms j (part_of j store) t) where
         pub goes_left : (ws' ks' ps' ms' : List (List ℕ)) → ws' ≡ set ws j m.job.words → ks' ≡ set ks j (kind_row m.job)
             → ps' ≡ places_after m j ks ps → ms' ≡ marks_after m j ks ms
             → held ws' ks' ps' ms' secret size nas_ip nas_id label ≡ step_left before j t b store
@@ -107,12 +103,12 @@ module _ (ws ks ps ms : List (List ℕ)) (secret : List ℕ) (size nas_ip : ℕ)
             ∙ ap (λ (x : M.Moved). left_by (outcome_of x.ending) j x.job before) (em ∙ as_moved)
             ∙ ap (λ (o : O.Outcome). left_by o j (moved_of (scheduler_in before) j t store).job before) (sym went)
 
-        pub goes_reply : (u : List ℕ) → u ≡ reply_after (take z secret) (part_of j store) b m.ending → u ≡ step_reply (scheduler_in before) j t b store
+        pub goes_reply : (u : List ℕ) → u ≡ reply_after x (part_of j store) b m.ending → u ≡ step_reply (scheduler_in before) j t b store
         unfolding step_reply
         goes_reply u e =
-            e ∙ ap (λ (x : M.Moved). reply_after (take z secret) (part_of j store) b x.ending) (em ∙ as_moved) ∙ rw (← read, eq-eqb _ _ zero, ez)
+            e ∙ ap (λ (v : M.Moved). reply_after x (part_of j store) b v.ending) (em ∙ as_moved) ∙ rw (← read, eq-eqb _ _ zero, ex)
 
-      pub goes_table : (u : List ℕ) → u ≡ moved_table (settings (take z secret) nas_ip (take y nas_id)) (job_at (jobs_in (length (take z secret)) ws ks ps ms) j) (part_of j store) t
+      pub goes_table : (u : List ℕ) → u ≡ moved_table (settings x nas_ip y) (job_at (jobs_in (length x) ws ks ps ms) j) (part_of j store) t
           → u ≡ step_table (scheduler_in before) j t b store
       unfolding step_table
-      goes_table u e = e ∙ rw (← read, eq-eqb _ _ zero, cut, ez, ey)
+      goes_table u e = e ∙ rw (← read, eq-eqb _ _ zero, long, ex, ey)

@@ -1,13 +1,13 @@
 -- For inner contracts: a job read from its rows and moved, and its rows after that.
 -- Assumes nothing.
-use Rattle.std.specs.Prelude.{Bool, false, cond, List, ℕ, length, set}
+use Rattle.std.specs.Prelude.{Bool, false, cond, List, ℕ, length, set, Option, Some, None}
 use Rattle.nas_settings.specs.Settings.{settings}
-use Rattle.sched_job.specs.declared.Ending as E
-use Rattle.sched_job.specs.declared.Ending.TheVariants.{Going, Done}
+use Rattle.das_answer.specs.declared.Answer.{Answer}
 use Rattle.sched_job.specs.declared.Moved as M
 use Rattle.sched_job.specs.Moves.{moved}
 use Rattle.sched_state.specs.Scheduler.{job_at}
 use Rattle.sched_state.specs.Calls.{is_ack}
+use Rattle.sched_rows.specs.declared.Rows.{Rows}
 use Rattle.sched_rows.specs.Layout.{kind_row, place_row, jobs_in}
 use Rattle.sched_rows.specs.Left.{restart_places, restart_marks}
 
@@ -15,10 +15,14 @@ use Rattle.sched_rows.specs.Left.{restart_places, restart_marks}
 abbrev pub rows_moved : List ℕ → ℕ → List ℕ → List (List ℕ) → List (List ℕ) → List (List ℕ) → List (List ℕ) → ℕ → List ℕ → List ℕ → M.Moved
 rows_moved secret nas_ip nas_id ws ks ps ms j q t = moved (settings secret nas_ip nas_id) (job_at (jobs_in (length secret) ws ks ps ms) j) q t
 
+-- the same of rows as they are lent
+abbrev pub moved_in : List ℕ → ℕ → List ℕ → Rows → ℕ → List ℕ → List ℕ → M.Moved
+moved_in secret nas_ip nas_id r j q t = rows_moved secret nas_ip nas_id r.words.now r.kinds.now r.places.now r.marks.now j q t
+
 -- whether a step ended in ACK
-abbrev pub ack_by : E.Ending → Bool
-ack_by Going = false
-ack_by (Done a) = is_ack a
+abbrev pub ack_by : Option Answer → Bool
+ack_by None = false
+ack_by (Some a) = is_ack a
 
 -- the places and the marks after job j was moved: its own, and after an ACK those past Check back to slot 0
 unfoldable pub places_after : M.Moved → ℕ → List (List ℕ) → List (List ℕ) → List (List ℕ)

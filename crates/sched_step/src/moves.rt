@@ -4,11 +4,13 @@ ghost use Rattle.nas_settings.specs.Settings.{settings};
 ghost use Rattle.sched_job.specs.Moves.{moved_table, reply_after};
 ghost use Rattle.sched_state.specs.Scheduler.{job_at, part_of};
 ghost use Rattle.sched_state.specs.Calls.{is_ack};
-ghost use Rattle.sched_rows.specs.Layout.{kind_row, jobs_in};
-ghost use Rattle.sched_step.specs.Moved.{rows_moved, ack_by, places_after, marks_after};
+ghost use Rattle.sched_rows.specs.Layout.{kind_row};
+ghost use Rattle.sched_rows.specs.Lent.{jobs_of, SameRows};
+ghost use Rattle.sched_step.specs.Moved.{moved_in, ack_by, places_after, marks_after};
 
 use das_answer::Answer;
 use sched_job::{Ending, Moved};
+use sched_rows::Rows;
 
 fn is_ack(a: Answer) -> bool
     ensures { result ≡ is_ack a }
@@ -33,35 +35,25 @@ fn acked(e: Ending) -> bool
 }
 
 // The rows after job j was moved.
-fn settled(
-    words: &mut [[u32; 4]; 4],
-    kinds: &mut [[u32; 2]; 4],
-    places: &mut [[usize; 2]; 4],
-    marks: &mut [[u8; 64]; 4],
-    j: usize,
-    m: Moved,
-)
+fn settled(rows: &mut Rows<'_>, j: usize, m: Moved)
     requires { j < 4 }
-    ensures words_after { words.new ≡ set words.old j m.job.words }
-    ensures kinds_after { kinds.new ≡ set kinds.old j (kind_row m.job) }
-    ensures places_after { places.new ≡ places_after m j kinds.old places.old }
-    ensures marks_after { marks.new ≡ marks_after m j kinds.old marks.old }
+    ensures same { SameRows rows.old rows.new }
+    ensures words_after { rows.new.words.now ≡ set rows.old.words.now j m.job.words }
+    ensures kinds_after { rows.new.kinds.now ≡ set rows.old.kinds.now j (kind_row m.job) }
+    ensures places_after { rows.new.places.now ≡ places_after m j rows.old.kinds.now rows.old.places.now }
+    ensures marks_after { rows.new.marks.now ≡ marks_after m j rows.old.kinds.now rows.old.marks.now }
 {
     let job = m.job;
     let ending = m.ending;
-    sched_rows::writing::put(&mut *words, &mut *kinds, &mut *places, &mut *marks, j, job);
+    rows.put(j, job);
     if acked(ending) {
-        sched_rows::writing::restart_all(kinds, places, marks);
-        return;
+        rows.restart_all();
     }
 }
 
 // Job j moved by its part q of the store, the table and what the scheduler was made with.
 fn worked(
-    words: &[[u32; 4]; 4],
-    kinds: &[[u32; 2]; 4],
-    places: &[[usize; 2]; 4],
-    marks: &[[u8; 64]; 4],
+    rows: &Rows<'_>,
     secret: &[u8],
     nas_ip: u32,
     nas_id: &[u8],
@@ -71,20 +63,17 @@ fn worked(
     reply: &mut [u8],
 ) -> Moved
     requires { (length secret.now ≤ 64) × (j < 4) × (length q.now ≡ 4096) × (4096 ≤ length reply.old) }
-    ensures value { result ≡ rows_moved secret.now nas_ip nas_id.now words.now kinds.now places.now marks.now j q.now t.old }
-    ensures t_after { t.new ≡ moved_table (settings secret.now nas_ip nas_id.now) (job_at (jobs_in (length secret.now) words.now kinds.now places.now marks.now) j) q.now t.old }
+    ensures value { result ≡ moved_in secret.now nas_ip nas_id.now rows.now j q.now t.old }
+    ensures t_after { t.new ≡ moved_table (settings secret.now nas_ip nas_id.now) (job_at (jobs_of (length secret.now) rows.now) j) q.now t.old }
     ensures reply_after { reply.new ≡ reply_after secret.now q.now reply.old result.ending }
 {
-    let job = sched_rows::reading::job(words, kinds, places, marks, secret.len(), j);
+    let job = rows.job(secret.len(), j);
     sched_move::step(job, q, secret, nas_ip, nas_id, t, reply)
 }
 
 // One step of job j.
 pub(crate) fn stepped(
-    words: &mut [[u32; 4]; 4],
-    kinds: &mut [[u32; 2]; 4],
-    places: &mut [[usize; 2]; 4],
-    marks: &mut [[u8; 64]; 4],
+    rows: &mut Rows<'_>,
     secret: &[u8],
     nas_ip: u32,
     nas_id: &[u8],
@@ -94,18 +83,17 @@ pub(crate) fn stepped(
     store: &[u8],
 ) -> Ending
     requires { (length secret.now ≤ 64) × (j < 4) × (4096 ≤ length reply.old) × (length store.now ≡ 16384) }
-    ensures value { result ≡ (rows_moved secret.now nas_ip nas_id.now words.old kinds.old places.old marks.old j (part_of j store.now) t.old).ending }
-    ensures words_after { words.new ≡ set words.old j (rows_moved secret.now nas_ip nas_id.now words.old kinds.old places.old marks.old j (part_of j store.now) t.old).job.words }
-    ensures kinds_after { kinds.new ≡ set kinds.old j (kind_row (rows_moved secret.now nas_ip nas_id.now words.old kinds.old places.old marks.old j (part_of j store.now) t.old).job) }
-    ensures places_after { places.new ≡ places_after (rows_moved secret.now nas_ip nas_id.now words.old kinds.old places.old marks.old j (part_of j store.now) t.old) j kinds.old places.old }
-    ensures marks_after { marks.new ≡ marks_after (rows_moved secret.now nas_ip nas_id.now words.old kinds.old places.old marks.old j (part_of j store.now) t.old) j kinds.old marks.old }
-    ensures t_after { t.new ≡ moved_table (settings secret.now nas_ip nas_id.now) (job_at (jobs_in (length secret.now) words.old kinds.old places.old marks.old) j) (part_of j store.now) t.old }
-    ensures reply_after { reply.new ≡ reply_after secret.now (part_of j store.now) reply.old (rows_moved secret.now nas_ip nas_id.now words.old kinds.old places.old marks.old j (part_of j store.now) t.old).ending }
+    ensures same { SameRows rows.old rows.new }
+    ensures value { result ≡ (moved_in secret.now nas_ip nas_id.now rows.old j (part_of j store.now) t.old).ending }
+    ensures words_after { rows.new.words.now ≡ set rows.old.words.now j (moved_in secret.now nas_ip nas_id.now rows.old j (part_of j store.now) t.old).job.words }
+    ensures kinds_after { rows.new.kinds.now ≡ set rows.old.kinds.now j (kind_row (moved_in secret.now nas_ip nas_id.now rows.old j (part_of j store.now) t.old).job) }
+    ensures places_after { rows.new.places.now ≡ places_after (moved_in secret.now nas_ip nas_id.now rows.old j (part_of j store.now) t.old) j rows.old.kinds.now rows.old.places.now }
+    ensures marks_after { rows.new.marks.now ≡ marks_after (moved_in secret.now nas_ip nas_id.now rows.old j (part_of j store.now) t.old) j rows.old.kinds.now rows.old.marks.now }
+    ensures t_after { t.new ≡ moved_table (settings secret.now nas_ip nas_id.now) (job_at (jobs_of (length secret.now) rows.old) j) (part_of j store.now) t.old }
+    ensures reply_after { reply.new ≡ reply_after secret.now (part_of j store.now) reply.old (moved_in secret.now nas_ip nas_id.now rows.old j (part_of j store.now) t.old).ending }
 {
     let q = octet_runs::slice(store, j * 4096, 4096);
-    let m = worked(
-        words, kinds, places, marks, secret, nas_ip, nas_id, j, q, t, reply,
-    );
-    settled(words, kinds, places, marks, j, m);
+    let m = worked(rows, secret, nas_ip, nas_id, j, q, t, reply);
+    settled(rows, j, m);
     m.ending
 }

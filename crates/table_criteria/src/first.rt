@@ -4,7 +4,7 @@ ghost use Rattle.table_slots.specs.Slot.{live};
 ghost use Rattle.table_criteria.specs.Meets.{inside, meets, matches, listed, first_of};
 ghost use Rattle.table_criteria.specs.Passes.{passes};
 
-use crate::{Criteria, Criterion, Sieve};
+use crate::{Criterion, Sieve};
 
 // Whether the value asked for lies in the area as a whole, and is no longer than a text can be.
 #[tactic(auto, unfolding(crate::specs::Meets::inside))]
@@ -49,12 +49,12 @@ fn sieve_for(area: &[u8], c: Criterion) -> Option<Sieve>
 }
 
 // The first of the criteria.
-fn first_of(c: Criteria) -> Option<Criterion>
-    ensures { result ≡ first_of c }
+fn first_of(c: &[Option<Criterion>]) -> Option<Criterion>
+    ensures { result ≡ first_of c.now }
 {
     for asked in c {
         if asked.is_some() {
-            return asked;
+            return *asked;
         }
     }
     None
@@ -62,8 +62,8 @@ fn first_of(c: Criteria) -> Option<Criterion>
 
 // The sieve for the first of the criteria: every slot that matches passes it. There is none where the value does not lie in the area.
 #[tactic(auto, unfolding(crate::specs::Meets::inside))]
-pub fn sieve_of(area: &[u8], c: Criteria) -> Option<Sieve>
-    ensures { (s : List ℕ) → length s ≡ 192 → matches area.now (listed c) s ≡ true → passes result s ≡ true }
+pub fn sieve_of(area: &[u8], c: &[Option<Criterion>]) -> Option<Sieve>
+    ensures { (s : List ℕ) → length s ≡ 192 → matches area.now (listed c.now) s ≡ true → passes result s ≡ true }
 {
     let one = first_of(c)?;
     if !lies_in(area, one) {

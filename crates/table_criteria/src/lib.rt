@@ -59,5 +59,5 @@ pub struct Criterion {
     pub value: Span,
 }
 
-// The criteria of a request, at most one a place.
+// The criteria of a request, at most one a place. A walk over slots takes them as a slice.
 pub type Criteria = [Option<Criterion>; 5];

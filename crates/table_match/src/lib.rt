@@ -7,16 +7,16 @@ ghost use Rattle.table_slots.specs.Marks.{marks_after};
 ghost use Rattle.table_criteria.specs.Meets.{all, listed, meets, matches, matches_at};
 ghost use Rattle.table_criteria.specs.Passes.{passes};
 
-use table_criteria::{Criteria, Sieve, compare, first};
+use table_criteria::{Criterion, Sieve, compare, first};
 
 // Whether the slot s meets every criterion.
-#[inline]
-fn meets_all(area: &[u8], s: &[u8], c: &Criteria) -> bool
+#[inline(always)]
+fn meets_all(area: &[u8], s: &[u8], c: &[Option<Criterion>]) -> bool
     ensures { result ≡ all (meets area.now s.now) (listed c.now) }
 {
     for asked in c {
         if let Some(one) = asked
-            && !compare::meets_one(area, s, *one)
+            && !compare::meets_one(area, s, one)
         {
             return false;
         }
@@ -26,17 +26,17 @@ fn meets_all(area: &[u8], s: &[u8], c: &Criteria) -> bool
 
 // Whether slot k is live and meets every criterion. The lengths are looked at last: most slots fail before.
 #[tactic(auto, using(table_slots::proofs::Live::unmarked), unfolding(table_criteria::specs::Meets::matches))]
-pub fn match_slot(t: &[u8], k: usize, area: &[u8], c: Criteria) -> bool
-    ensures { result ≡ matches_at area.now (listed c) t.now k }
+pub fn match_slot(t: &[u8], k: usize, area: &[u8], c: &[Option<Criterion>]) -> bool
+    ensures { result ≡ matches_at area.now (listed c.now) t.now k }
 {
     let s = table_slots::slot_of(t, k);
-    table_slots::has_mark(s) && meets_all(area, s, &c) && table_slots::is_live(s)
+    table_slots::has_mark(s) && meets_all(area, s, c) && table_slots::is_live(s)
 }
 
 // Whether the whole slot s is live and meets every criterion, where those that do pass the sieve, which spares most others the comparison.
-#[inline]
+#[inline(always)]
 #[tactic(auto, using(table_slots::proofs::Live::unmarked), unfolding(table_criteria::specs::Meets::matches))]
-fn match_sieved(s: &[u8], sieve: Option<Sieve>, area: &[u8], c: &Criteria) -> bool
+fn match_sieved(s: &[u8], sieve: Option<Sieve>, area: &[u8], c: &[Option<Criterion>]) -> bool
     requires { (length s.now ≡ 192) × (matches area.now (listed c.now) s.now ≡ true → passes sieve s.now ≡ true) }
     ensures { result ≡ matches area.now (listed c.now) s.now }
 {
@@ -47,13 +47,15 @@ fn match_sieved(s: &[u8], sieve: Option<Sieve>, area: &[u8], c: &Criteria) -> bo
 }
 
 // The marks of all slots: 1 for each that is live and meets every criterion. The sieve is made once.
-pub fn mark_all(t: &[u8], area: &[u8], c: Criteria) -> [u8; 64]
-    ensures { result ≡ marks_after (matches_at area.now (listed c) t.now) (slot_count t.now) }
+// Not inlined: the walk keeps to the same few instructions a slot wherever it is called.
+#[inline(never)]
+pub fn mark_all(t: &[u8], area: &[u8], c: &[Option<Criterion>]) -> [u8; 64]
+    ensures { result ≡ marks_after (matches_at area.now (listed c.now) t.now) (slot_count t.now) }
 {
     let sieve = first::sieve_of(area, c);
     let mut marks = [0u8; 64];
     for k in 0..table_slots::slot_count(t) {
-        if match_sieved(table_slots::whole_slot(t, k), sieve, area, &c) {
+        if match_sieved(table_slots::whole_slot(t, k), sieve, area, c) {
             marks[k] = 1;
         }
     }

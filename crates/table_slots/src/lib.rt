@@ -66,14 +66,14 @@ pub fn slot_live(t: &[u8], k: usize) -> bool
 }
 
 // The text whose length stands at place i.
-#[tactic(auto, using(octet_numbers::proofs::Part::part_past), unfolding(crate::specs::Slot::text))]
+#[tactic(auto, using(octet_numbers::proofs::Part::part_past, crate::proofs::Reading::text_rest), unfolding(crate::specs::Slot::text))]
 pub fn text_at(s: &[u8], i: usize) -> &[u8]
     ensures { result.now ≡ text i s.now }
 {
     if s.len() <= i {
         return &s[..0];
     }
-    octet_runs::slice(s, i + 1, byte(s, i))
+    octet_runs::slice(&s[i + 1..], 0, byte(s, i))
 }
 
 // Slot k, where it lies in the table whole.

@@ -8,6 +8,7 @@ use Prim.Native.Nat.{ℕ, ◌≤◌}
 use native.Mathlib.Omega.{arith}
 use lib.ListN.{length}
 use lib.Seq.{take-length}
+use Rattle.std.specs.Prelude.{None, Ok}
 use Rattle.nas_settings.specs.Settings.{Settings}
 use Rattle.octet_numbers.specs.Runs.{write}
 use Rattle.octet_numbers.proofs.Part.{part_whole, part-written}
@@ -25,7 +26,6 @@ use Rattle.das_handle.specs.Handle.{handle_answer, handle_reply}
 use Rattle.das_handle.proofs.Stages.{room}
 use Rattle.dac_write.specs.Writer.{Draft, write_refusal, request_of, write_output}
 use Rattle.dac_write.proofs.Refusals.{taken}
-use Rattle.dac_check.specs.declared.Checked.TheVariants.{Right}
 use Rattle.dac_check.specs.ReplyCheck.{check_answer}
 use Rattle.thm_exchange.proofs.Requests.{written_form, written_short}
 use Rattle.thm_exchange.proofs.Outputs as O
@@ -51,7 +51,7 @@ at_start b r good long room =
     same_unpadded r (write b 0 r) (length r) z (rw (length-write b 0 r) room) (part-written b 0 r (omega arith) ∙ sym (part_whole r))
     ∙ rw long (take-length r)
 
-output : (secret out : List ℕ) (d : Draft) → write_refusal secret out d ≡ 0 → unpadded (write_output secret out d) ≡ request_of secret d
+output : (secret out : List ℕ) (d : Draft) → write_refusal secret out d ≡ None → unpadded (write_output secret out d) ≡ request_of secret d
 output secret out d h =
     let l = O.length_request secret d in
     let short : length (request_of secret d) ≤ length out = omega (arith, written_short secret out d h, (taken secret out d h).room) in
@@ -68,12 +68,12 @@ module _ (g : Settings) (t b p : List ℕ) (clock : ℕ) (answered : silent (han
       let fits : length r ≤ length b = omega (arith, room g t b (refusal_of g t b) refl (unrefused g t b p clock answered)) in
       at_start b r (good_length g.secret p (length_of p) c f.sized short) (reply_length_lem g.secret p c short ∙ sym l) fits
 
-  buffer_passes : (r : List ℕ) → Passes g.secret p b r → check_answer g.secret p r ≡ Right
+  buffer_passes : (r : List ℕ) → Passes g.secret p b r → check_answer g.secret p r ≡ Ok tt
   buffer_passes r x =
       let w = write b 0 (reply_of g.secret p x.cause) in
       rw (x.written, reply_checked g.secret p w, reply_alone x.cause) x.right
 
-  passes : (q : List ℕ) → unpadded q ≡ unpadded p → check_answer g.secret q (handle_reply g t b p clock) ≡ Right
+  passes : (q : List ℕ) → unpadded q ≡ unpadded p → check_answer g.secret q (handle_reply g t b p clock) ≡ Ok tt
   passes q e =
       let r = handle_reply g t b p clock in
       request_checked g.secret q r

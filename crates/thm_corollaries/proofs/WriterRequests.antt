@@ -6,6 +6,7 @@ use mathlib.Core.Bool.{Bool, true, false, cond, false≢true}
 use mathlib.Core.List.{List, [], ◌∷◌}
 use Prim.Native.Nat.{ℕ}
 use lib.IntN.{ℤ}
+use Rattle.std.specs.Prelude.{None}
 use Rattle.octet_numbers.specs.Runs.{member}
 use Rattle.packet_auth.specs.Signing.{zeros}
 use Rattle.rule_stamp.specs.declared.Stamp.{Stamp}
@@ -59,14 +60,14 @@ module _ (g : Settings) (p : List ℕ) (clock : ℕ) where
 no_form : (n k : ℕ) → n ≡ 0 → member k (1 ∷ 2 ∷ 3 ∷ []) ≡ true → k ≡ n → ⊥
 no_form n k z h e = let i : member 0 (1 ∷ 2 ∷ 3 ∷ []) ≡ true = rw (e, z) at h in false≢true i
 
-module _ (secret out : List ℕ) (d : Draft) (written : write_refusal secret out d ≡ 0) where
+module _ (secret out : List ℕ) (d : Draft) (written : write_refusal secret out d ≡ None) where
   pub opens : (w : World) (clock k : ℕ) → (call (Open (request_of secret d) clock) w).out.outcome ≡ O.Discarded k → ⊥
   unfolding call
   opens w clock k e =
       let q = open_discards w.scheduler (request_of secret d) w.store clock k e in
       no_form (form_of (request_of secret d)) k (written_form secret out d written) q.0 q.1
 
-pub sixth : (g : Settings) (out : List ℕ) (d : Draft) → write_refusal g.secret out d ≡ 0
+pub sixth : (g : Settings) (out : List ℕ) (d : Draft) → write_refusal g.secret out d ≡ None
     → (t b : List ℕ) (clock k : ℕ) → handle_answer g t b (request_of g.secret d) clock ≡ A.Discarded k → k ≡ 6
 sixth g out d written t b clock k e =
     let p = request_of g.secret d in

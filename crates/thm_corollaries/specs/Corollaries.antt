@@ -2,7 +2,7 @@
 -- passes our reply check against the packet of its opening; a request from our writer is not discarded when it is opened, and a step discards it
 -- for its stamp alone (D6). And what a call's contract says is the next state of the list's run, so that demand 3 follows from the contracts.
 -- Assumes nothing.
-use Rattle.std.specs.Prelude.{false, List, [], ◌∷◌, ◌≡◌, ℕ}
+use Rattle.std.specs.Prelude.{false, List, [], ◌∷◌, ◌≡◌, ℕ, None, Ok}
 use Rattle.octet_numbers.specs.Runs.{write}
 use Rattle.table_records.specs.Record.{Session}
 use Rattle.table_sessions.specs.Session.{insert_table, remove_table}
@@ -11,7 +11,6 @@ use Rattle.das_reply_parts.specs.Reply.{reply_of}
 use Rattle.das_answer.specs.declared.Answer.{Answer}
 use Rattle.das_answer.specs.declared.Answer.TheVariants as A
 use Rattle.dac_write.specs.Writer.{Draft, write_refusal, request_of}
-use Rattle.dac_check.specs.declared.Checked.TheVariants.{Right}
 use Rattle.dac_check.specs.ReplyCheck.{check_answer}
 use Rattle.sched_state.specs.declared.Scheduler as D
 use Rattle.sched_state.specs.declared.Called as C
@@ -27,7 +26,7 @@ use Rattle.das_answer.specs.Replied.{silent}
 pub record Passes (secret p b r : List ℕ) : Type 0 where
   pub cause : Cause
   pub written : r ≡ write b 0 (reply_of secret p cause)
-  pub right : check_answer secret p (reply_of secret p cause) ≡ Right
+  pub right : check_answer secret p (reply_of secret p cause) ≡ Ok tt
 
 -- secret is the scheduler's, w what a list of calls left, notes the packets and clocks that the serial execution of that list has noted
 pub record After (secret : List ℕ) (w : World) (notes : List Note) : Type 0 where
@@ -35,10 +34,10 @@ pub record After (secret : List ℕ) (w : World) (notes : List Note) : Type 0 wh
   pub replies_pass : (j clock : ℕ) (b p : List ℕ) (a : Answer) → note_at notes j ≡ noted p clock
       → (call (Step j b) w).out.outcome ≡ Done a → silent a ≡ false → Passes secret p b (call (Step j b) w).out.reply
   -- a request that our writer does not refuse meets none of D1 to D3 at its opening
-  pub written_opens : (out : List ℕ) (d : Draft) → write_refusal secret out d ≡ 0
+  pub written_opens : (out : List ℕ) (d : Draft) → write_refusal secret out d ≡ None
       → (clock k : ℕ) → (call (Open (request_of secret d) clock) w).out.outcome ≡ Discarded k → ⊥
   -- and none of D1 to D5 in its steps
-  pub written_steps : (out : List ℕ) (d : Draft) → write_refusal secret out d ≡ 0
+  pub written_steps : (out : List ℕ) (d : Draft) → write_refusal secret out d ≡ None
       → (j clock k : ℕ) (b : List ℕ) → note_at notes j ≡ noted (request_of secret d) clock → (call (Step j b) w).out.outcome ≡ Done (A.Discarded k) → k ≡ 6
 
 -- what the next call takes

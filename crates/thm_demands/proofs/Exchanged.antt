@@ -27,7 +27,8 @@ abbrev OfWriter : Option Refusal → Type 0
 OfWriter None = Unit {0}
 OfWriter (Some n) = member (refusal_number n) (2 ∷ 4 ∷ 12 ∷ 13 ∷ []) ≡ true
 
-one_of : (a b c e : Bool) → OfWriter (cond a (Some R.SecretLength) (cond b (Some R.OutputRoom) (cond c (Some R.RequestCode) (cond e (Some R.GivenAttributes) None))))
+one_of : (a b c e : Bool)
+    → OfWriter (cond a (Some R.SecretLength) (cond b (Some R.OutputRoom) (cond c (Some R.RequestCode) (cond e (Some R.GivenAttributes) None))))
 one_of true b c e = refl
 one_of false true c e = refl
 one_of false false true e = refl
@@ -42,7 +43,9 @@ module _ (secret out : List ℕ) (d : Draft) where
   by_answer : (x : Option Refusal) (n : Refusal) (written : List ℕ) → OfWriter x → answer_by x (request_length d) ≡ Err n
       → (member (refusal_number n) (2 ∷ 4 ∷ 12 ∷ 13 ∷ []) ≡ true) × (x ≡ Some n) × (output_by x out written ≡ out)
   by_answer None n written one e = cc
-  by_answer (Some r) n written one e = let same : r ≡ n = cc in (subst (λ (x : Refusal). member (refusal_number x) (2 ∷ 4 ∷ 12 ∷ 13 ∷ []) ≡ true) same one, cc, refl)
+  by_answer (Some r) n written one e =
+      let same : r ≡ n = cc in
+      (subst (λ (x : Refusal). member (refusal_number x) (2 ∷ 4 ∷ 12 ∷ 13 ∷ []) ≡ true) same one, cc, refl)
 
   write_refusals : (n : Refusal) → write_answer secret out d ≡ Err n
       → (member (refusal_number n) (2 ∷ 4 ∷ 12 ∷ 13 ∷ []) ≡ true) × (write_refusal secret out d ≡ Some n) × (write_output secret out d ≡ out)
@@ -59,7 +62,8 @@ by_fit : (x : Option Mismatch) (n : Refusal) → fit_by x ≡ Err (U.Refused n) 
 by_fit None n e = cc
 by_fit (Some v) n e = cc
 
-check_by : (b : Bool) (x : Option Mismatch) (n : Refusal) → ◌≡◌ {A = Result (Unit {0}) Unfit} (cond b (Err (U.Refused R.SecretLength)) (fit_by x)) (Err (U.Refused n))
+check_by : (b : Bool) (x : Option Mismatch) (n : Refusal)
+    → ◌≡◌ {A = Result (Unit {0}) Unfit} (cond b (Err (U.Refused R.SecretLength)) (fit_by x)) (Err (U.Refused n))
     → (n ≡ R.SecretLength) × (refusal_number n ≡ 2) × (b ≡ true)
 check_by true x n e = let same : R.SecretLength ≡ n = cc in (cc, subst (λ (y : Refusal). refusal_number y ≡ 2) same refl, refl)
 check_by false x n e = absurd (by_fit x n e)

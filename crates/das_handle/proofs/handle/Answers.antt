@@ -3,14 +3,14 @@ use borrow.Author.Rules.{rules}
 use Rattle.das_handle.proofs.Stages.{room, handle_refused, refused_table_kept, refused_reply_kept, handle_judged, judged_table, judged_reply}
 use Rattle.das_handle.proofs.handle.Goals as goal
 
-pub returns-then-r-ne0-clause-value : goal.returns-then-r-ne0-clause-value
-returns-then-r-ne0-clause-value c = search (rules, handle_refused)
+pub returns-in-Some-clause-value : goal.returns-in-Some-clause-value
+returns-in-Some-clause-value c = search (rules, handle_refused)
 
-pub returns-then-r-ne0-clause-t_after : goal.returns-then-r-ne0-clause-t_after
-returns-then-r-ne0-clause-t_after c = search (rules, refused_table_kept)
+pub returns-in-Some-clause-t_after : goal.returns-in-Some-clause-t_after
+returns-in-Some-clause-t_after c = search (rules, refused_table_kept)
 
-pub returns-then-r-ne0-clause-reply_after : goal.returns-then-r-ne0-clause-reply_after
-returns-then-r-ne0-clause-reply_after c = search (rules, refused_reply_kept)
+pub returns-in-Some-clause-reply_after : goal.returns-in-Some-clause-reply_after
+returns-in-Some-clause-reply_after c = search (rules, refused_reply_kept)
 
 pub judged-requires : goal.judged-requires
 judged-requires c = search (rules, room)

@@ -1,15 +1,15 @@
 -- `sched_move::match_or_commit` meets its contract: Match below the number of slots, else Commit.
 use borrow.Author.Rules.{rules}
 use Rattle.sched_job.proofs.Checked.{going_reply}
-use Rattle.sched_job.proofs.Committed.{stands_sized, stands_kept, stands_once}
+use Rattle.sched_job.proofs.Committed.{stands_once}
 use Rattle.sched_move.proofs.Slotted.{slot_here, match_here, match_table, commit_here, commit_table_lem}
 use Rattle.sched_move.proofs.match_or_commit.Goals as goal
 
 pub match_slot-requires-clause-k_bound : goal.match_slot-requires-clause-k_bound
-match_slot-requires-clause-k_bound c = (search (rules, slot_here), search (rules, stands_sized), search (rules, stands_once))
+match_slot-requires-clause-k_bound c = search (rules, slot_here)
 
-pub match_slot-requires-clause-kept : goal.match_slot-requires-clause-kept
-match_slot-requires-clause-kept c = search (rules, stands_kept)
+pub match_slot-requires-clause-once : goal.match_slot-requires-clause-once
+match_slot-requires-clause-once c = search (rules, stands_once)
 
 pub returns-then-k-slot_count-clause-value : goal.returns-then-k-slot_count-clause-value
 returns-then-k-slot_count-clause-value c = search (rules, match_here)

@@ -9,8 +9,8 @@ overflow_cast-slot c = search (rules, slot_small)
 pub returns-in-Slot-clause-value : goal.returns-in-Slot-clause-value
 returns-in-Slot-clause-value c = search (rules, start_number)
 
-pub returns-in-Slot-clause-label_after : goal.returns-in-Slot-clause-label_after
-returns-in-Slot-clause-label_after c = search (rules, start_left_lem)
+pub returns-in-Slot-clause-marks_after : goal.returns-in-Slot-clause-marks_after
+returns-in-Slot-clause-marks_after c = search (rules, start_left_lem)
 
 pub returns-in-Slot-clause-slot_after : goal.returns-in-Slot-clause-slot_after
 returns-in-Slot-clause-slot_after c = search (rules, start_slot)
@@ -18,8 +18,8 @@ returns-in-Slot-clause-slot_after c = search (rules, start_slot)
 pub returns-in-NotInserted-clause-value : goal.returns-in-NotInserted-clause-value
 returns-in-NotInserted-clause-value c = search (rules, start_refused)
 
-pub returns-in-NotInserted-clause-label_after : goal.returns-in-NotInserted-clause-label_after
-returns-in-NotInserted-clause-label_after c = search (rules, start_kept)
+pub returns-in-NotInserted-clause-marks_after : goal.returns-in-NotInserted-clause-marks_after
+returns-in-NotInserted-clause-marks_after c = search (rules, start_kept)
 
 pub returns-in-NotInserted-clause-slot_after : goal.returns-in-NotInserted-clause-slot_after
 returns-in-NotInserted-clause-slot_after c = search (rules, start_same)

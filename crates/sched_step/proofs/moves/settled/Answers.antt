@@ -9,8 +9,8 @@ returns-then-acked-clause-places_after c = search (rules, places_ack)
 pub returns-then-acked-clause-marks_after : goal.returns-then-acked-clause-marks_after
 returns-then-acked-clause-marks_after c = search (rules, marks_ack)
 
-pub returns-clause-places_after : goal.returns-clause-places_after
-returns-clause-places_after c = search (rules, places_not)
+pub returns-else-acked-clause-places_after : goal.returns-else-acked-clause-places_after
+returns-else-acked-clause-places_after c = search (rules, places_not)
 
-pub returns-clause-marks_after : goal.returns-clause-marks_after
-returns-clause-marks_after c = search (rules, marks_not)
+pub returns-else-acked-clause-marks_after : goal.returns-else-acked-clause-marks_after
+returns-else-acked-clause-marks_after c = search (rules, marks_not)
