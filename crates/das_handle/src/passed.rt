@@ -30,7 +30,7 @@ fn matched(
     ensures reply_after { reply.new ≡ reply_as secret.now request.now.packet.bytes.now reply.old result }
 {
     let criteria = das_effects::criteria(&request.survey);
-    let marks = table_match::mark_all(t, request.survey.area, criteria);
+    let marks = table_match::mark_all(t, request.survey.area, &criteria);
     das_answer::commit(t, &marks, reply, request, secret, skew)
 }
 

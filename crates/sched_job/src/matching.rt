@@ -15,7 +15,7 @@ fn matches(request: &Request, t: &[u8], k: usize) -> bool
     ensures { result ≡ matches_in (area_of request.now.packet.bytes.now) t.now k }
 {
     let criteria = das_effects::criteria(&request.survey);
-    table_match::match_slot(t, k, request.survey.area, criteria)
+    table_match::match_slot(t, k, request.survey.area, &criteria)
 }
 
 impl Job {
