@@ -37,14 +37,7 @@ fn settled(rows: &mut Rows<'_>, j: usize, m: Moved)
 }
 
 // Job j moved by its part q of the store, the table and what the scheduler was made with.
-fn worked(
-    rows: &Rows<'_>,
-    gate: &Gate,
-    j: usize,
-    q: &[u8],
-    t: &mut [u8],
-    reply: &mut [u8],
-) -> Moved
+fn worked(rows: &Rows<'_>, gate: &Gate, j: usize, q: &[u8], t: &mut [u8], reply: &mut [u8]) -> Moved
     requires { (length gate.now.secret.now ≤ 64) × (j < 4) × (length q.now ≡ 4096) × (4096 ≤ length reply.old) }
     ensures value { result ≡ moved_in (gate_settings gate.now) rows.now j q.now t.old }
     ensures t_after { t.new ≡ moved_table (gate_settings gate.now) (job_at (jobs_of (length gate.now.secret.now) rows.now) j) q.now t.old }
