@@ -39,6 +39,7 @@ fn keep(room: &mut [u8], s: &[u8])
 }
 
 // R2, R3, or a scheduler. What is fixed then is written to the five places that C lends.
+#[tactic(auto, unfolding(sched_state::specs::Refusals::make_refusal, sched_rows::specs::Left::make_left))]
 pub fn make(
     rows: &mut Rows<'_>,
     kept: &mut [u8; 64],
