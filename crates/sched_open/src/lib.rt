@@ -30,14 +30,14 @@ fn chosen(rows: &Rows<'_>, size: usize, store: &[u8]) -> Result<usize, Refusal>
 }
 
 // A job for a request that D1 to D3 leave: its rows, and its Length bytes to the front of the job's part.
-fn admit(rows: &mut Rows<'_>, j: usize, packet: Packet<'_>, clock: u32, store: &mut [u8])
+fn admit(rows: &mut Rows<'_>, j: usize, packet: &Packet, clock: u32, store: &mut [u8])
     requires { (j < 4) × (length store.old ≡ 16384) }
     ensures same { SameRows rows.old rows.new }
-    ensures words_after { rows.new.words.now ≡ set rows.old.words.now j (first_job (length_of packet.bytes.now) clock).words }
-    ensures kinds_after { rows.new.kinds.now ≡ set rows.old.kinds.now j (kind_row (first_job (length_of packet.bytes.now) clock)) }
-    ensures places_after { rows.new.places.now ≡ set rows.old.places.now j (place_row (first_job (length_of packet.bytes.now) clock)) }
-    ensures marks_after { rows.new.marks.now ≡ set rows.old.marks.now j (first_job (length_of packet.bytes.now) clock).marks }
-    ensures store_after { store.new ≡ write store.old (j * 4096) (take (length_of packet.bytes.now) packet.bytes.now) }
+    ensures words_after { rows.new.words.now ≡ set rows.old.words.now j (first_job (length_of packet.now.bytes.now) clock).words }
+    ensures kinds_after { rows.new.kinds.now ≡ set rows.old.kinds.now j (kind_row (first_job (length_of packet.now.bytes.now) clock)) }
+    ensures places_after { rows.new.places.now ≡ set rows.old.places.now j (place_row (first_job (length_of packet.now.bytes.now) clock)) }
+    ensures marks_after { rows.new.marks.now ≡ set rows.old.marks.now j (first_job (length_of packet.now.bytes.now) clock).marks }
+    ensures store_after { store.new ≡ write store.old (j * 4096) (take (length_of packet.now.bytes.now) packet.now.bytes.now) }
 {
     let n = packet.length;
     octet_copies::copy(store, j * 4096, &packet.bytes[..n]);
@@ -66,7 +66,7 @@ pub fn open(
     };
     match packet_form::form(p) {
         Ok(packet) => {
-            admit(rows, j, packet, clock, store);
+            admit(rows, j, &packet, clock, store);
             *job = j as u32;
             0
         }
