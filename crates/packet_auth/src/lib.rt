@@ -9,8 +9,8 @@ ghost use Rattle.packet_auth.specs.Signing.{zeros, authenticator};
 use packet_form::Packet;
 
 // What comes before the attributes, with auth in the authenticator's place, at the start of a block.
-pub fn front(buf: &mut [u8], p: &[u8], auth: &[u8; 16])
-    requires { (length buf.old ≡ 64) × (20 ≤ length p.now) }
+pub fn front(buf: &mut [u8; 64], p: &[u8], auth: &[u8; 16])
+    requires { 20 ≤ length p.now }
     ensures { buf.new ≡ write buf.old 0 (take 4 p.now ++ auth.now) }
 {
     octet_copies::copy(&mut *buf, 0, &p[..4]);
