@@ -29,7 +29,8 @@ pub fn authenticator(p: &[u8], n: usize, auth: &[u8; 16], secret: &[u8]) -> [u8;
     md5_digest::finish(&mut buf, q, n + secret.len())
 }
 
-// The authenticator of a request.
+// The authenticator of a request: zeros stand for it.
+#[tactic(auto, unfolding(crate::specs::Signing::zeros))]
 pub fn request_authenticator(p: &[u8], n: usize, secret: &[u8]) -> [u8; 16]
     requires { (20 ≤ n) × (n ≤ length p.now) }
     ensures { result ≡ authenticator zeros p.now n secret.now }
