@@ -8,7 +8,8 @@ ghost use Rattle.packet_blocks.specs.Block.{block_count, hashed};
 
 use md5_ops::State;
 
-// How many blocks a message of n bytes has.
+// How many blocks a message of n bytes has. n / 64 and n % 64 are taken apart, so that no sum wraps.
+#[tactic(auto, unfolding(crate::specs::Block::block_count))]
 pub fn block_count(n: usize) -> usize
     ensures { result ≡ block_count n }
 {
