@@ -6,8 +6,7 @@ ghost use Rattle.packet_blocks.specs.Block.{block_count, request_block};
 ghost use Rattle.packet_blocks.specs.Window.{window};
 
 // Adds v to a message of which buf shows 64 bytes, those from place s on. The message had at bytes; of v, what falls into the 64 is copied.
-fn lay(buf: &mut [u8], s: usize, at: usize, v: &[u8])
-    requires { length buf.old ≡ 64 }
+fn lay(buf: &mut [u8; 64], s: usize, at: usize, v: &[u8])
     ensures { (m : List ℕ) → length m ≡ at → buf.old ≡ window s m → buf.new ≡ window s (m ++ v.now) }
 {
     if at < s {
@@ -22,8 +21,8 @@ fn lay(buf: &mut [u8], s: usize, at: usize, v: &[u8])
 }
 
 // The packet up to Length, with zeros in the authenticator's place.
-fn lay_packet(buf: &mut [u8], s: usize, p: &[u8], n: usize)
-    requires { (length buf.old ≡ 64) × (20 ≤ n) × (n ≤ length p.now) }
+fn lay_packet(buf: &mut [u8; 64], s: usize, p: &[u8], n: usize)
+    requires { (20 ≤ n) × (n ≤ length p.now) }
     ensures { buf.old ≡ window s [] → buf.new ≡ window s (with_auth zeros p.now n) }
 {
     let zero = [0u8; 16];
@@ -37,13 +36,12 @@ fn count(t: usize) -> [u8; 8]
     requires { t < 8192 }
     ensures { result ≡ le_bytes 8 (t * 8) }
 {
-    let v = t * 8;
-    [(v % 256) as u8, (v / 256) as u8, 0, 0, 0, 0, 0, 0]
+    (t * 8).to_le_bytes()
 }
 
 // The padding after a message of t bytes.
-fn lay_padding(buf: &mut [u8], s: usize, t: usize)
-    requires { (length buf.old ≡ 64) × (t < 8192) }
+fn lay_padding(buf: &mut [u8; 64], s: usize, t: usize)
+    requires { t < 8192 }
     ensures { (m : List ℕ) → length m ≡ t → buf.old ≡ window s m → buf.new ≡ window s (m ++ padding t) }
 {
     let mut padding = [0u8; 64];
@@ -55,6 +53,7 @@ fn lay_padding(buf: &mut [u8], s: usize, t: usize)
 }
 
 // Block k of the signed request, with its padding.
+#[tactic(auto, unfolding(crate::specs::Block::block_count))]
 pub fn request_block(p: &[u8], n: usize, secret: &[u8], k: usize) -> [u8; 64]
     requires { (20 ≤ n) × (n ≤ length p.now) × (n ≤ 4096) × (length secret.now ≤ 64) × (k < block_count (n + length secret.now)) }
     ensures { result ≡ request_block k p.now n secret.now }
