@@ -10,6 +10,7 @@ use native.Mathlib.Omega.{arith}
 use borrow.Author.Tests.{ltb-true, ltb-false}
 use lib.Dec.{ltb}
 use lib.ListN.{set}
+use Rattle.std.specs.Prelude.{None}
 use Rattle.table_slots.specs.Slot.{slot_count}
 use Rattle.table_slots.specs.Marks.{marks_after}
 use Rattle.rule_stamp.specs.Stamp.{stamp_of}
@@ -31,7 +32,7 @@ use Rattle.thm_serial.proofs.SameAnswers.{answer_same, table_same}
 use Rattle.thm_serial.proofs.PassedCheck.{Passing, passing_holds}
 use Rattle.thm_serial.proofs.JobInvariant.{Right, ends_with, handled_as}
 
-module _ (g : Settings) (p : List ℕ) (clock : ℕ) (q t b : List ℕ) (open-to : refusal_of g t b ≡ 0) (good : form_of p ≡ 0) (same : SamePacket p q)
+module _ (g : Settings) (p : List ℕ) (clock : ℕ) (q t b : List ℕ) (open-to : refusal_of g t b ≡ None) (good : form_of p ≡ None) (same : SamePacket p q)
     (passed : Passing g (signed_by g.secret p) p clock) where
   commit_right : (j : B.Job) → j.clock ≡ clock → j.marks ≡ marks_after (matches_in (area_of p) t) (slot_count t)
       → Right g p clock q t b (commit_move j q t) (commit_table q j.marks t)

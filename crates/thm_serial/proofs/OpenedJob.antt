@@ -5,6 +5,7 @@ use mathlib.Core.List.{List, []}
 use Prim.Native.Nat.{ℕ, ◌+◌, ◌*◌, ◌<◌}
 use native.Mathlib.Omega.{arith}
 use lib.ListN.{length, take, set, length-set}
+use Rattle.std.specs.Prelude.{None}
 use Rattle.octet_numbers.specs.Runs.{write}
 use Rattle.octet_numbers.proofs.Write.{length-write}
 use Rattle.packet_blocks.specs.Block.{block_count}
@@ -35,7 +36,7 @@ module _ (s : D.Scheduler) (t store : List ℕ) (ns : List Note) (h : Tied (reco
   abbrev pub room : List ℕ → ℕ → List ℕ
   room l j = write l (j * 4096) (take (length_of p) p)
 
-  first_holds : (j : ℕ) → form_of p ≡ 0 → j < 4 → length store ≡ 16384 → Holding (settings_of s) (first_job (length_of p) clock) p clock (part_of j (room store j)) t
+  first_holds : (j : ℕ) → form_of p ≡ None → j < 4 → length store ≡ 16384 → Holding (settings_of s) (first_job (length_of p) clock) p clock (part_of j (room store j)) t
   first_holds j e l z =
       record {
         long = refl;
@@ -45,7 +46,7 @@ module _ (s : D.Scheduler) (t store : List ℕ) (ns : List Note) (h : Tied (reco
         place = (some_block (length_of p + length (settings_of s).secret), rw (blocks_none p (length_of p) (settings_of s).secret));
       }
 
-  pub opened : (j : ℕ) → form_of p ≡ 0 → j < 4 → length store ≡ 16384
+  pub opened : (j : ℕ) → form_of p ≡ None → j < 4 → length store ≡ 16384
       → Agree (length store) (did (called (with_job s j (first_job (length_of p) clock)) (O.Opened j)) [] t (room store j))
       (serial_did (O.Opened j) [] (with_note (serial_of before ns) j (noted p clock)))
   opened j e l z =
