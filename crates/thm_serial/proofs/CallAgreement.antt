@@ -1,6 +1,6 @@
 -- Every call on the scheduler agrees with the serial execution. Opening, a step and a drop have files of their own; a start and an end change the table and send every job past Check back to slot 0, and where they are refused they change nothing.
 -- Assumes nothing.
-use mathlib.Core.Path.{◌≡◌, refl}
+use mathlib.Core.Path.{refl}
 use mathlib.Core.Bool.{Bool}
 use mathlib.Core.List.{List, []}
 use Prim.Native.Nat.{ℕ}
@@ -13,7 +13,7 @@ use Rattle.sched_state.specs.declared.Scheduler as D
 use Rattle.sched_state.specs.declared.Outcome.TheVariants as O
 use Rattle.sched_state.specs.Scheduler.{settings_of, open_at}
 use Rattle.sched_state.specs.Refusals.{drop_refusal}
-use Rattle.sched_state.specs.Calls.{called, drop_called, started_as, start_called, ended_as, end_called}
+use Rattle.sched_state.specs.Calls.{drop_called, started_as, start_called, ended_as, end_called}
 use Rattle.sched_state.specs.Runs.{Call, Open, Step, Drop, Start, End, World, did, call}
 use Rattle.thm_serial.specs.Serial.{Note, serial_did, with_table, serial_drop, start_outcome, end_outcome, serial_call}
 use Rattle.thm_serial.specs.Demand3.{finished}

@@ -2,7 +2,7 @@
 -- restarts others: a step that goes on, a NAK, a discard and a refused step change no job but their own. A drop changes nothing but its job.
 -- Assumes nothing.
 use mathlib.Core.Path.{◌≡◌, refl}
-use mathlib.Core.Bool.{Bool, true, false, cond, true≢false}
+use mathlib.Core.Bool.{false, cond, true≢false}
 use mathlib.Core.List.{List}
 use Prim.Native.Nat.{ℕ}
 use lib.ListN.{length}
