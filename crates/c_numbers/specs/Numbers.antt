@@ -6,36 +6,29 @@ use Rattle.rule_causes.specs.Causes.{error_cause}
 use Rattle.das_answer.specs.declared.Answer as D
 use Rattle.das_answer.specs.declared.Answer.TheVariants.{Refused, Discarded, Stale, Nak, Ack}
 use Rattle.refusals.specs.declared.Refusal.{Refusal}
-use Rattle.refusals.specs.Numbers.{refusal_number, mismatch_number}
+use Rattle.refusals.specs.Numbers.{refusal_number, discard_number, mismatch_number}
 use Rattle.dac_check.specs.declared.Unfit.{Unfit}
 use Rattle.dac_check.specs.declared.Unfit.TheVariants as U
-
--- what C is told of an answer
-pub record Told : Type 0 where
-  -- its number
-  pub answer : ℕ
-  -- sessions changed: 0 unless ACK
-  pub changed : ℕ
-  -- the reply's length: 0 where there is none
-  pub length : ℕ
-  -- the signed skew, and 1; or 0 and 0 where no stamp is usable
-  pub skew : ℤ
-  pub stamped : ℕ
+use Rattle.c_numbers.specs.declared.numbers.Told.{Told}
 
 abbrev pub told : ℕ → ℕ → ℕ → ℤ → ℕ → Told
-told answer changed size skew stamped = record { answer = answer; changed = changed; length = size; skew = skew; stamped = stamped }
+told answer changed size skew usable = record { answer = answer; changed = changed; length = size; skew = skew; stamped = usable }
 
 -- an answer alone, all other numbers 0
 abbrev pub alone : ℕ → Told
 alone answer = told answer 0 0 (pos 0) 0
 
+-- an answer to a request whose stamp is usable
+abbrev pub stamped : ℕ → ℕ → ℕ → ℤ → Told
+stamped answer changed size skew = told answer changed size skew 1
+
 -- the five answers; a refusal leaves the four numbers beside it as they were
 unfoldable pub answer_told : D.Answer → Told → Told
 answer_told (Refused r) old = told (refusal_number r) old.changed old.length old.skew old.stamped
 answer_told (Discarded d) old = told (100 + discard_number d) 0 0 (pos 0) 0
-answer_told (Stale skew) old = told 106 0 0 skew 1
-answer_told (Nak c skew n) old = told (error_cause c) 0 n skew 1
-answer_told (Ack k skew n) old = told 0 k n skew 1
+answer_told (Stale skew) old = stamped 106 0 0 skew
+answer_told (Nak c skew n) old = stamped (error_cause c) 0 n skew
+answer_told (Ack k skew n) old = stamped 0 k n skew
 
 -- for inner contracts: the two that are counted fit into 32 bits
 pub record Small (n : Told) : Type 0 where

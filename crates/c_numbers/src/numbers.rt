@@ -1,50 +1,63 @@
 // An answer as numbers: what C gets back, and what goes beside it.
-ghost use Rattle.std.specs.Prelude.{◌≡◌};
-ghost use Rattle.c_numbers.specs.Numbers.{told, alone, answer_told, Small};
+ghost use Rattle.std.specs.Prelude.{◌≡◌, ◌<◌};
+ghost use Rattle.c_numbers.specs.Numbers.{alone, stamped, answer_told, Small};
 
 use das_answer::Answer;
 
-// Writes the four numbers beside an answer: sessions changed, the reply's length, the skew, whether a stamp is usable.
-fn put(
-    changed: &mut u32,
-    size: &mut u32,
-    skew: &mut i64,
-    stamped: &mut u32,
-    count: u32,
-    n: u32,
-    k: i64,
-    usable: u32,
-)
-    ensures { (changed.new ≡ count) × (size.new ≡ n) × (skew.new ≡ k) × (stamped.new ≡ usable) }
-{
-    *changed = count;
-    *size = n;
-    *skew = k;
-    *stamped = usable;
+// What C is told of an answer: its number; the sessions changed, 0 unless ACK; the reply's length, 0 where there is none; the signed skew and 1, or 0 and 0 where no
+// stamp is usable.
+#[derive(Clone, Copy, Debug, PartialEq, Eq)]
+pub struct Told {
+    pub answer: u32,
+    pub changed: u32,
+    pub length: u32,
+    pub skew: i64,
+    pub stamped: u32,
 }
 
-// The answer's number, and the four beside it written; a refusal leaves them as they were.
-pub fn tell(a: Answer, changed: &mut u32, size: &mut u32, skew: &mut i64, stamped: &mut u32) -> u32
+impl Told {
+    // An answer alone, all other numbers 0.
+    pub fn alone(answer: u32) -> Told
+        ensures { result ≡ alone answer }
+    {
+        Told {
+            answer,
+            changed: 0,
+            length: 0,
+            skew: 0,
+            stamped: 0,
+        }
+    }
+
+    // An answer to a request whose stamp is usable.
+    fn stamped(answer: u32, changed: usize, length: usize, skew: i64) -> Told
+        requires { (changed < 4294967296) × (length < 4294967296) }
+        ensures { result ≡ stamped answer changed length skew }
+    {
+        Told {
+            answer,
+            changed: changed as u32,
+            length: length as u32,
+            skew,
+            stamped: 1,
+        }
+    }
+}
+
+// The answer's number and the four beside it; a refusal leaves those of old.
+#[tactic(auto, unfolding(crate::specs::Numbers::answer_told))]
+pub fn tell(a: Answer, old: Told) -> Told
     requires { Small (answer_told a (alone 0)) }
-    ensures { told result changed.new size.new skew.new stamped.new ≡ answer_told a (told 0 changed.old size.old skew.old stamped.old) }
+    ensures { result ≡ answer_told a old }
 {
     match a {
-        Answer::Refused(n) => n as u32,
-        Answer::Discarded(d) => {
-            put(changed, size, skew, stamped, 0, 0, 0, 0);
-            100 + d as u32
-        }
-        Answer::Stale(k) => {
-            put(changed, size, skew, stamped, 0, 0, k, 1);
-            106
-        }
-        Answer::Nak(cause, k, n) => {
-            put(changed, size, skew, stamped, 0, n as u32, k, 1);
-            rule_causes::error_cause(cause)
-        }
-        Answer::Ack(count, k, n) => {
-            put(changed, size, skew, stamped, count as u32, n as u32, k, 1);
-            0
-        }
+        Answer::Refused(r) => Told {
+            answer: u32::from(r),
+            ..old
+        },
+        Answer::Discarded(d) => Told::alone(100 + u32::from(d)),
+        Answer::Stale(skew) => Told::stamped(106, 0, 0, skew),
+        Answer::Nak(cause, skew, n) => Told::stamped(rule_causes::error_cause(cause), 0, n, skew),
+        Answer::Ack(count, skew, n) => Told::stamped(0, count, n, skew),
     }
 }

@@ -1,6 +1,6 @@
 -- The reply buffer after an answer: only a NAK or an ACK writes it, at its start; the bytes after the reply stay (document 01, "Reply").
 -- Assumes nothing.
-use Rattle.std.specs.Prelude.{List, Some, None}
+use Rattle.std.specs.Prelude.{List, ℕ, Some, None}
 use Rattle.octet_numbers.specs.Runs.{write}
 use Rattle.das_reply_parts.specs.Reply.{reply_of}
 use Rattle.das_answer.specs.declared.Answer as D

@@ -28,13 +28,7 @@ pub enum Answer {
 }
 
 // A NAK: its reply is written.
-pub fn nak(
-    reply: &mut [u8],
-    request: &Request,
-    secret: &[u8],
-    cause: Cause,
-    skew: i64,
-) -> Answer
+pub fn nak(reply: &mut [u8], request: &Request, secret: &[u8], cause: Cause, skew: i64) -> Answer
     requires { (reply_length request.now.packet.bytes.now (Some cause) ≤ 4096) × (4096 ≤ length reply.old) }
     ensures value { result ≡ Nak cause skew (reply_length request.now.packet.bytes.now (Some cause)) }
     ensures reply_after { reply.new ≡ write reply.old 0 (reply_of secret.now request.now.packet.bytes.now (Some cause)) }

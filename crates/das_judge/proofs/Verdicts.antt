@@ -35,7 +35,7 @@ module _ (g : Settings) (p : List ℕ) (clock : ℕ) (v : R.Verdict) (is : v ≡
 
   -- the reply to a NAK
   pub nak_fits : (n : ℕ) → Sized p n → (c : Cause) (k : ℤ) → v ≡ J.Nak c k → reply_length p (Some c) ≤ 4096
-  nak_fits n z c k e = nak_short g p clock (check_verdict g true p clock) refl n (Some c) c k (sym is ∙ e) z
+  nak_fits n z c k e = nak_short g p clock (check_verdict g true p clock) refl n c (Some c) k (sym is ∙ e) z
 
 pub nak_reply : (secret p b u : List ℕ) (a : D.Answer) (c : Cause) (k : ℤ) (n : ℕ) → a ≡ A.Nak c k n → u ≡ write b 0 (reply_of secret p (Some c)) → u ≡ reply_judged secret p b (Err a)
 nak_reply secret p b u a c k n i h = rw i h

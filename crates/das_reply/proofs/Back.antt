@@ -4,14 +4,14 @@ use mathlib.Core.Path.{◌≡◌, refl}
 use mathlib.Core.Bool.{cond}
 use mathlib.Core.List.{List, ◌++◌}
 use Prim.Native.Nat.{ℕ, ◌+◌, ◌≤◌}
-use Rattle.rule_causes.specs.declared.Cause.{Cause}
+use Rattle.std.specs.Prelude.{Option, is_some}
+use Rattle.rule_causes.specs.declared.cause.Cause.{Cause}
 use Rattle.packet_form.specs.Packet.{code_of, identifier_of, length_of, auth_of, area_of}
-use Rattle.rule_causes.specs.Causes.{applies}
 use Rattle.das_reply_parts.specs.Reply.{body_of, maced, reply_length, head_of, reply_mac, reply_auth, reply_of}
 use Rattle.packet_write.specs.Packets.{mac_valued, packet, packet_length, signed_packet}
 use Rattle.packet_laws.proofs.Readback.{signed_code, signed_identifier, signed-length, signed_auth, signed_area}
 
-module _ (secret p : List ℕ) (c : Cause) where
+module _ (secret p : List ℕ) (c : Option Cause) where
   pub reply_is : reply_of secret p c ≡ signed_packet secret (auth_of p) (head_of p c) (body_of p c) (maced p)
   unfolding reply_of
   reply_is = refl
@@ -24,7 +24,7 @@ module _ (secret p : List ℕ) (c : Cause) where
   unfolding reply_of reply_auth reply_mac signed_packet packet
   reply_parts = refl
 
-  pub reply_code : code_of (reply_of secret p c) ≡ code_of p + cond (applies c) 2 1
+  pub reply_code : code_of (reply_of secret p c) ≡ code_of p + cond (is_some c) 2 1
   unfolding head_of
   reply_code = rw reply_is (signed_code secret (auth_of p) (body_of p c) (maced p) _ (identifier_of p) (reply_length p c))
 

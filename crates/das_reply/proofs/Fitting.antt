@@ -6,28 +6,25 @@ use mathlib.Core.List.{List, [], ◌∷◌}
 use Prim.Native.Nat.{ℕ, ◌-◌, ◌≤◌}
 use native.Mathlib.Omega.{arith}
 use lib.ListN.{length, length-append}
-use Rattle.octet_numbers.specs.Numbers.{be_bytes}
 use Rattle.octet_numbers.proofs.Numbers.{length-be_bytes}
 use Rattle.octet_numbers.proofs.Part.{length_part}
 use Rattle.attr_walk.specs.Attributes.{attributes, any, first_of, kind_is}
 use Rattle.packet_auth.specs.Signing.{zeros}
 use Rattle.packet_auth.proofs.Messages.{length-zeros}
 use Rattle.attr_survey.specs.Survey.{size_of}
-use Rattle.rule_causes.specs.declared.Cause.{Cause}
-use Rattle.rule_causes.specs.Causes.{applies, error_cause}
+use Rattle.std.specs.Prelude.{Option, Some, None}
+use Rattle.rule_causes.specs.declared.cause.Cause.{Cause}
+use Rattle.rule_causes.specs.Causes.{error_cause}
 use Rattle.packet_form.specs.Packet.{area_of}
 use Rattle.packet_form.specs.Discards.{Sized}
 use Rattle.das_reply_parts.specs.Reply.{state_part, cause_part, proxy_part, body_of, reply_length}
 use Rattle.packet_write.specs.Packets.{mac_valued, packet_length}
 use Rattle.das_reply.proofs.Sums.{sum_of, total_fits, first_size, length_found, length_proxies, four_types}
 
-cause_case : (b : Bool) (v : List ℕ) → length v ≡ 4 → length (cond b (101 ∷ 6 ∷ v) []) ≤ 6
-cause_case true v e = omega arith
-cause_case false v e = omega arith
-
-length_cause : (c : Cause) → length (cause_part c) ≤ 6
+length_cause : (c : Option Cause) → length (cause_part c) ≤ 6
 unfolding cause_part
-length_cause c = cause_case (applies c) (be_bytes 4 (error_cause c)) (length-be_bytes 4 (error_cause c))
+length_cause (Some c) = omega (arith, length-be_bytes 4 (error_cause c))
+length_cause None = omega arith
 
 length_state : (s : List ℕ) → length (state_part s) ≤ sum_of (kind_is 24) (attributes s)
 unfolding state_part
@@ -42,7 +39,7 @@ mac_case true z n f h = omega (arith, f refl, length-zeros)
 mac_case false z n f h = omega arith
 
 -- type 55 has length 6, and type 80, where it stands, length 18
-pub reply_fits : (p : List ℕ) (n : ℕ) (c : Cause) → Sized p n → size_of (first_of (kind_is 55) (attributes (area_of p))) ≡ 6
+pub reply_fits : (p : List ℕ) (n : ℕ) (c : Option Cause) → Sized p n → size_of (first_of (kind_is 55) (attributes (area_of p))) ≡ 6
     → (any (kind_is 80) (attributes (area_of p)) ≡ true → size_of (first_of (kind_is 80) (attributes (area_of p))) ≡ 18) → reply_length p c ≤ n
 unfolding reply_length body_of packet_length mac_valued
 reply_fits p n c sized stamp mac =
@@ -56,6 +53,6 @@ reply_fits p n c sized stamp mac =
     simp length-append (omega (arith, m, length_state s, length_cause c, length-all s, first_size (kind_is 55) l, four_types l, total_fits s))
 
 -- so it is no longer than a packet may be
-pub reply_short : (p : List ℕ) (n : ℕ) (c : Cause) → Sized p n → size_of (first_of (kind_is 55) (attributes (area_of p))) ≡ 6
+pub reply_short : (p : List ℕ) (n : ℕ) (c : Option Cause) → Sized p n → size_of (first_of (kind_is 55) (attributes (area_of p))) ≡ 6
     → (any (kind_is 80) (attributes (area_of p)) ≡ true → size_of (first_of (kind_is 80) (attributes (area_of p))) ≡ 18) → reply_length p c ≤ 4096
 reply_short p n c sized stamp mac = omega (arith, sized.high, reply_fits p n c sized stamp mac)

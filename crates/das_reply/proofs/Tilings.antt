@@ -17,8 +17,8 @@ use Rattle.attr_walk.proofs.Searches.{first_passes}
 use Rattle.attr_walk.proofs.Steps.{step_inv}
 use Rattle.attr_walk.proofs.Stands.{first_stands, member_stands}
 use Rattle.attr_walk.proofs.Areas.{placed_bytes}
-use Rattle.rule_causes.specs.declared.Cause.{Cause}
-use Rattle.rule_causes.specs.Causes.{applies, error_cause}
+use Rattle.rule_causes.specs.declared.cause.Cause.{Cause}
+use Rattle.rule_causes.specs.Causes.{error_cause}
 use Rattle.packet_form.specs.Packet.{area_of}
 use Rattle.das_reply_parts.specs.Reply.{as_came, if_found, state_part, cause_part, proxies_in, proxy_part, body_of}
 use Rattle.packet_laws.proofs.Plain.{Plain, plain_nil, plain_both, plain_bytes}
@@ -49,15 +49,15 @@ all_plain : (s : List ℕ) → Plain (proxy_part s)
 unfolding proxy_part
 all_plain s = proxies_plain s (attributes s) (λ a m. member_stands s 0 a m)
 
-cause_case : (b : Bool) (v : List ℕ) → length v ≡ 4 → Plain (cond b (101 ∷ 6 ∷ v) [])
-cause_case true v e = let six : length v + 2 ≡ 6 = omega arith in rw (← six) (plain_bytes 101 v (λ h. omega arith))
-cause_case false v e = plain_nil
-
-cause_plain : (c : Cause) → Plain (cause_part c)
+cause_plain : (c : Option Cause) → Plain (cause_part c)
 unfolding cause_part
-cause_plain c = cause_case (applies c) (be_bytes 4 (error_cause c)) (length-be_bytes 4 (error_cause c))
+cause_plain (Some c) =
+    let v = be_bytes 4 (error_cause c) in
+    let six : length v + 2 ≡ 6 = omega (arith, length-be_bytes 4 (error_cause c)) in
+    rw (← six) (plain_bytes 101 v (λ h. omega arith))
+cause_plain None = plain_nil
 
-pub body_plain : (p : List ℕ) (c : Cause) → Plain (body_of p c)
+pub body_plain : (p : List ℕ) (c : Option Cause) → Plain (body_of p c)
 unfolding body_of
 body_plain p c =
     let s = area_of p in

@@ -19,9 +19,9 @@ fn add_state(p: State, q: State) -> State
     }
 }
 
-// The words after one block; t has the constants, w is lent for the sums.
-fn block(q: State, w: &mut [u32], t: &[u32; 64], m: &[u8]) -> State
-    requires { (length w.old ≡ 64) × (length m.now ≡ 64) × InPlace t.now }
+// The words after one block, a slice of the message; t has the constants, w is lent for the sums.
+fn block(q: State, w: &mut [u32; 64], t: &[u32; 64], m: &[u8]) -> State
+    requires { (length m.now ≡ 64) × InPlace t.now }
     ensures { result ≡ md5_block q m.now }
 {
     let x = md5_ops::sums::words(m);
@@ -32,8 +32,7 @@ fn block(q: State, w: &mut [u32], t: &[u32; 64], m: &[u8]) -> State
 
 // The words after the whole blocks of m; w is lent for the sums of a block. This has two callers, so the compiler keeps it a function of its own and
 // the sums in memory, where they are made four at a time before the rounds. Inlined, it would add each constant last, and every operation waits for it.
-fn hash(q: State, w: &mut [u32], m: &[u8]) -> State
-    requires { length w.old ≡ 64 }
+fn hash(q: State, w: &mut [u32; 64], m: &[u8]) -> State
     ensures { result ≡ after q (length m.now / 64) m.now }
 {
     let t = md5_ops::sums::constants();

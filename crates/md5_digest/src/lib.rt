@@ -8,8 +8,7 @@ ghost use Rattle.md5_digest.specs.Held.{Held};
 use md5_ops::State;
 
 // A piece where no block is begun: its whole blocks as they lie, the rest into the buffer.
-fn aligned(buf: &mut [u8], q: State, s: &[u8]) -> State
-    requires { length buf.old ≡ 64 }
+fn aligned(buf: &mut [u8; 64], q: State, s: &[u8]) -> State
     ensures { (n : ℕ) (m : List ℕ) → n % 64 ≡ 0 → Held n m q buf.old → Held (n + length s.now) (m ++ s.now) result buf.new }
 {
     let r = md5_blocks::blocks(q, s);
@@ -19,8 +18,7 @@ fn aligned(buf: &mut [u8], q: State, s: &[u8]) -> State
 }
 
 // A piece of any length after the n bytes held.
-pub fn update(buf: &mut [u8], q: State, n: usize, s: &[u8]) -> State
-    requires { length buf.old ≡ 64 }
+pub fn update(buf: &mut [u8; 64], q: State, n: usize, s: &[u8]) -> State
     ensures { (m : List ℕ) → Held n m q buf.old → Held (n + length s.now) (m ++ s.now) result buf.new }
 {
     let f = n % 64;
@@ -39,8 +37,7 @@ pub fn update(buf: &mut [u8], q: State, n: usize, s: &[u8]) -> State
 }
 
 // The digest of the n bytes held.
-pub fn finish(buf: &mut [u8], q: State, n: usize) -> [u8; 16]
-    requires { length buf.old ≡ 64 }
+pub fn finish(buf: &mut [u8; 64], q: State, n: usize) -> [u8; 16]
     ensures { (m : List ℕ) → Held n m q buf.old → result ≡ md5 m }
 {
     let f = n % 64;

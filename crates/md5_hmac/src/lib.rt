@@ -48,8 +48,7 @@ pub fn start(key: &[u8]) -> State
 }
 
 // After the last piece. n bytes are held, the key's block among them.
-pub fn finish(buf: &mut [u8], q: State, n: usize, key: &[u8]) -> [u8; 16]
-    requires { length buf.old ≡ 64 }
+pub fn finish(buf: &mut [u8; 64], q: State, n: usize, key: &[u8]) -> [u8; 16]
     ensures { (m : List ℕ) → Held n (inner_pad key.now ++ m) q buf.old → result ≡ hmac key.now m }
 {
     let inner = md5_digest::finish(&mut *buf, q, n);

@@ -1,7 +1,7 @@
 // The four rounds of RFC 1321, 3.4, on the sums of a block. Numbers stand in every call, so that no test of i is left when compiled.
 #![tactic(auto, using(crate::proofs::Chain::in_four, crate::proofs::Chain::in_round, crate::proofs::Chain::in_all))]
 
-ghost use Rattle.std.specs.Prelude.{◌≡◌, ◌+◌, ◌<◌, length};
+ghost use Rattle.std.specs.Prelude.{◌≡◌, ◌+◌, ◌<◌};
 ghost use Rattle.md5_ops.specs.Steps.{Shift, steps_from};
 
 use super::State;
@@ -12,8 +12,8 @@ use super::steps::step;
 struct Shifts(u32, u32, u32, u32);
 
 // Operations i to i + 3.
-fn four(q: State, w: &[u32], i: usize, s: Shifts) -> State
-    requires w_len { (length w.now ≡ 64) × (i < 61) }
+fn four(q: State, w: &[u32; 64], i: usize, s: Shifts) -> State
+    requires place { i < 61 }
     requires shift { Shift i s.0 × Shift (i + 1) s.1 × Shift (i + 2) s.2 × Shift (i + 3) s.3 }
     ensures { result ≡ steps_from w.now i 4 q }
 {
@@ -24,8 +24,7 @@ fn four(q: State, w: &[u32], i: usize, s: Shifts) -> State
 }
 
 // Round 1, with F.
-fn first(q: State, w: &[u32]) -> State
-    requires { length w.now ≡ 64 }
+fn first(q: State, w: &[u32; 64]) -> State
     ensures { result ≡ steps_from w.now 0 16 q }
 {
     let s = Shifts(7, 12, 17, 22);
@@ -36,8 +35,7 @@ fn first(q: State, w: &[u32]) -> State
 }
 
 // Round 2, with G.
-fn second(q: State, w: &[u32]) -> State
-    requires { length w.now ≡ 64 }
+fn second(q: State, w: &[u32; 64]) -> State
     ensures { result ≡ steps_from w.now 16 16 q }
 {
     let s = Shifts(5, 9, 14, 20);
@@ -48,8 +46,7 @@ fn second(q: State, w: &[u32]) -> State
 }
 
 // Round 3, with H.
-fn third(q: State, w: &[u32]) -> State
-    requires { length w.now ≡ 64 }
+fn third(q: State, w: &[u32; 64]) -> State
     ensures { result ≡ steps_from w.now 32 16 q }
 {
     let s = Shifts(4, 11, 16, 23);
@@ -60,8 +57,7 @@ fn third(q: State, w: &[u32]) -> State
 }
 
 // Round 4, with I.
-fn fourth(q: State, w: &[u32]) -> State
-    requires { length w.now ≡ 64 }
+fn fourth(q: State, w: &[u32; 64]) -> State
     ensures { result ≡ steps_from w.now 48 16 q }
 {
     let s = Shifts(6, 10, 15, 21);
@@ -72,8 +68,7 @@ fn fourth(q: State, w: &[u32]) -> State
 }
 
 // All 64 operations.
-pub fn all(q: State, w: &[u32]) -> State
-    requires { length w.now ≡ 64 }
+pub fn all(q: State, w: &[u32; 64]) -> State
     ensures { result ≡ steps_from w.now 0 64 q }
 {
     let r = first(q, w);

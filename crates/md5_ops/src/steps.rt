@@ -1,5 +1,5 @@
 // An operation of RFC 1321, 3.4, for all rounds.
-ghost use Rattle.std.specs.Prelude.{◌≡◌, ◌<◌, length};
+ghost use Rattle.std.specs.Prelude.{◌≡◌, ◌<◌};
 ghost use Rattle.md5_ops.specs.Md5.{mix, index_in, turn};
 ghost use Rattle.md5_ops.specs.Steps.{Shift, place, step_on};
 
@@ -54,8 +54,8 @@ fn turn(q: State, f: u32, x: u32, s: u32) -> State
 }
 
 // Operation i, with its rotation.
-pub(crate) fn step(q: State, w: &[u32], i: usize, s: u32) -> State
-    requires { (length w.now ≡ 64) × (i < 64) × Shift i s }
+pub(crate) fn step(q: State, w: &[u32; 64], i: usize, s: u32) -> State
+    requires { (i < 64) × Shift i s }
     ensures { result ≡ step_on w.now i q }
 {
     let f = mix(i / 16, q.b, q.c, q.d);

@@ -22,7 +22,7 @@ pub fn constants() -> [u32; 64]
     ]
 }
 
-// The words of a block.
+// The words of a block. The block is a slice, since it is cut out of a message without a copy.
 pub fn words(m: &[u8]) -> [u32; 16]
     requires { length m.now ≡ 64 }
     ensures { Words m.now result }
@@ -36,8 +36,8 @@ pub fn words(m: &[u8]) -> [u32; 16]
 
 // The sum of x and the number of t at place p.
 #[tactic(auto, unfolding(crate::specs::Steps::put_at))]
-fn put_at(w: &mut [u32], t: &[u32; 64], x: u32, p: usize)
-    requires { (length w.old ≡ 64) × (p < 64) }
+fn put_at(w: &mut [u32; 64], t: &[u32; 64], x: u32, p: usize)
+    requires { p < 64 }
     ensures { w.new ≡ put_at w.old t.now x p }
 {
     w[p] = x.wrapping_add(t[p]);
@@ -45,8 +45,8 @@ fn put_at(w: &mut [u32], t: &[u32; 64], x: u32, p: usize)
 
 // Word j with its constant of each round.
 #[tactic(auto, unfolding(crate::specs::Steps::put_word))]
-fn put_word(w: &mut [u32], t: &[u32; 64], x: u32, j: usize)
-    requires { (length w.old ≡ 64) × (j < 16) }
+fn put_word(w: &mut [u32; 64], t: &[u32; 64], x: u32, j: usize)
+    requires { j < 16 }
     ensures { w.new ≡ put_word w.old t.now x j }
 {
     put_at(&mut *w, t, x, j);
@@ -57,8 +57,7 @@ fn put_word(w: &mut [u32], t: &[u32; 64], x: u32, j: usize)
 
 // Each word with its constant of each round.
 #[tactic(auto, using(crate::proofs::Filled::put_more))]
-pub fn put(w: &mut [u32], t: &[u32; 64], x: &[u32; 16])
-    requires { length w.old ≡ 64 }
+pub fn put(w: &mut [u32; 64], t: &[u32; 64], x: &[u32; 16])
     ensures { Sums x.now t.now w.new }
 {
     for j in 0..16 {

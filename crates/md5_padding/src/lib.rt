@@ -17,8 +17,7 @@ fn put_le32(t: &mut [u8], at: usize, v: u32)
 }
 
 // The count of n bytes in bits, at the end of the buffer.
-fn put_count(buf: &mut [u8], n: usize)
-    requires { length buf.old ≡ 64 }
+fn put_count(buf: &mut [u8; 64], n: usize)
     ensures { buf.new ≡ write buf.old 56 (le_bytes 8 (n * 8)) }
 {
     buf[56..64].copy_from_slice(&n.wrapping_mul(8).to_le_bytes());
@@ -38,8 +37,8 @@ pub fn bytes_of(q: State) -> [u8; 16]
 
 // Zeros from place at on, and the count of n bytes at the end of the buffer.
 #[tactic(auto, using(crate::proofs::Written::ended))]
-pub fn put_end(buf: &mut [u8], at: usize, n: usize)
-    requires { (length buf.old ≡ 64) × (at ≤ 56) }
+pub fn put_end(buf: &mut [u8; 64], at: usize, n: usize)
+    requires { at ≤ 56 }
     ensures { buf.new ≡ write buf.old at (replicate (56 - at) 0 ++ le_bytes 8 (n * 8)) }
 {
     octet_copies::fill(&mut *buf, at, 56 - at, 0);

@@ -7,4 +7,4 @@ use Rattle.md5_padding.proofs.Written.{count_bytes}
 use Rattle.md5_padding.proofs.put_count.Goals as goal
 
 pub returns : goal.returns
-returns c = copied_over 56 64 _ _ _ (c.copy_from_slice.ensures.after ∙ c.to_le_bytes.ensures ∙ count_bytes (c.args.n * 8)) refl (omega (arith, c.requires))
+returns c = copied_over 56 64 _ _ _ (c.copy_from_slice.ensures.after ∙ c.to_le_bytes.ensures ∙ count_bytes (c.args.n * 8)) refl (omega arith)
