@@ -1,4 +1,5 @@
--- Every call on the scheduler agrees with the serial execution. Opening, a step and a drop have files of their own; a start and an end change the table and send every job past Check back to slot 0, and where they are refused they change nothing.
+-- Every call on the scheduler agrees with the serial execution. Opening, a step and a drop have files of their own; a start and an end change the
+-- table and send every job past Check back to slot 0, and where they are refused they change nothing.
 -- Assumes nothing.
 use mathlib.Core.Path.{refl}
 use mathlib.Core.Bool.{Bool}
@@ -36,16 +37,20 @@ module _ (s : D.Scheduler) (t store : List ℕ) (ns : List Note) (h : Tied (reco
   -- ---- Start and End
 
   by_start : (x : Session) (v : Result ℕ Refusal)
-      → Agree (length store) (did (started_as s v) [] (inserted_as x t v) store) (serial_did (start_outcome v) [] (with_table (serial_of before ns) (inserted_as x t v)))
-  by_start x (Ok k) = record { out_is = refl; notes = ns; serial_is = refl; tied = restart-tied s t store ns h (inserted_as x t (Ok k)); size = refl }
+      → Agree (length store) (did (started_as s v) [] (inserted_as x t v) store)
+      (serial_did (start_outcome v) [] (with_table (serial_of before ns) (inserted_as x t v)))
+  by_start x (Ok k) =
+      record { out_is = refl; notes = ns; serial_is = refl; tied = restart-tied s t store ns h (inserted_as x t (Ok k)); size = refl }
   by_start x (Err r) = unchanged s t store ns h (O.Refused r) []
 
-  start_agrees : (x : Session) (f : Bool) → Agree (length store) (call (Start x) before) (serial_call (Start x) f (length store) (serial_of before ns))
+  start_agrees : (x : Session) (f : Bool)
+      → Agree (length store) (call (Start x) before) (serial_call (Start x) f (length store) (serial_of before ns))
   unfolding call serial_call start_called insert_table
   start_agrees x f = by_start x (insert_answer x t)
 
   by_end : (k : ℕ) (v : Result (Unit {0}) Refusal)
-      → Agree (length store) (did (ended_as s v) [] (removed_as k t v) store) (serial_did (end_outcome v) [] (with_table (serial_of before ns) (removed_as k t v)))
+      → Agree (length store) (did (ended_as s v) [] (removed_as k t v) store)
+      (serial_did (end_outcome v) [] (with_table (serial_of before ns) (removed_as k t v)))
   by_end k (Ok x) = record { out_is = refl; notes = ns; serial_is = refl; tied = restart-tied s t store ns h (removed_as k t (Ok x)); size = refl }
   by_end k (Err r) = unchanged s t store ns h (O.Refused r) []
 
@@ -54,7 +59,8 @@ module _ (s : D.Scheduler) (t store : List ℕ) (ns : List Note) (h : Tied (reco
   end_agrees k f = by_end k (remove_answer k t)
 
 -- any call
-pub call_agrees : (c : Call) (w : World) (ns : List Note) → Tied w ns → Agree (length w.store) (call c w) (serial_call c (finished (call c w).out) (length w.store) (serial_of w ns))
+pub call_agrees : (c : Call) (w : World) (ns : List Note) → Tied w ns
+    → Agree (length w.store) (call c w) (serial_call c (finished (call c w).out) (length w.store) (serial_of w ns))
 call_agrees (Open p clock) w ns h = open_agrees w.scheduler w.table w.store ns h p clock _
 call_agrees (Step j b) w ns h = step_agrees w.scheduler w.table w.store ns h j b
 call_agrees (Drop j) w ns h = drop_agrees w.scheduler w.table w.store ns h j _

@@ -22,7 +22,8 @@ use Rattle.sched_state.specs.Runs.{Open, World, call}
 -- ---- opening: x is the job that it takes, i a place of the store before the copied bytes or after them
 
 module _ (p store : List ℕ) (x i : ℕ) where
-  before_by : (f d : Bool) → i < x * 4096 → get_or (cond f (cond d (write store (x * 4096) (take (length_of p) p)) store) store) i 0 ≡ get_or store i 0
+  before_by : (f d : Bool) → i < x * 4096
+      → get_or (cond f (cond d (write store (x * 4096) (take (length_of p) p)) store) store) i 0 ≡ get_or store i 0
   before_by true true h = byte_before store (x * 4096) (take (length_of p) p) i h
   before_by true false h = refl
   before_by false d h = refl
@@ -46,6 +47,7 @@ module _ (p : List ℕ) (clock : ℕ) (w : World) (i : ℕ) where
   unfolding call open_store
   open_before h = before_by p w.store taken i opens (is_none (form_of p)) h
 
-  pub open_after : lowest_free (open_at w.scheduler.jobs) * 4096 + length_of p ≤ i → get_or (call (Open p clock) w).world.store i 0 ≡ get_or w.store i 0
+  pub open_after : lowest_free (open_at w.scheduler.jobs) * 4096 + length_of p ≤ i
+      → get_or (call (Open p clock) w).world.store i 0 ≡ get_or w.store i 0
   unfolding call open_store
   open_after h = after_by p w.store taken i opens (form_of p) refl h

@@ -59,7 +59,8 @@ slot_less true true k n j q t i h = omega (arith, ltb-true k n i)
 slot_less true false k n j q t i h = tt
 slot_less false e k n j q t i h = tt
 
-pub moved_less : (g : Settings) (x : S.Stage) (j : B.Job) (q t : List ℕ) → block_count (j.length + length g.secret) ≤ 66 → is_open x ≡ true → Less x (moved_at g x j q t)
+pub moved_less : (g : Settings) (x : S.Stage) (j : B.Job) (q t : List ℕ) → block_count (j.length + length g.secret) ≤ 66 → is_open x ≡ true
+    → Less x (moved_at g x j q t)
 unfolding hash_job check_move slot_move
 moved_less g Free j q t h o = absurd (false≢true o)
 moved_less g (Hash k) j q t h o = hash_less _ k (block_count (j.length + length g.secret)) refl h
@@ -94,7 +95,8 @@ module _ (s : D.Scheduler) (j : ℕ) (stands_open : open_at s.jobs j ≡ true) w
       (go f (omega (arith, total_set left s.jobs j free_job here, open_left_lem (job_at s.jobs j).stage job_open)))
     where
       go : (f : Bool) → total left rest < total left s.jobs
-          → total left (cond f (map restarted rest) rest) + 64 * pairs (total opens (cond f (map restarted rest) rest)) < total left s.jobs + 64 * (total opens rest + pairs (total opens rest))
+          → total left (cond f (map restarted rest) rest) + 64 * pairs (total opens (cond f (map restarted rest) rest))
+          < total left s.jobs + 64 * (total opens rest + pairs (total opens rest))
       go true z = rw (opens_restarted rest) (omega (arith, total_restarted rest))
       go false z = omega arith
 
@@ -102,7 +104,8 @@ module _ (s : D.Scheduler) (j : ℕ) (stands_open : open_at s.jobs j ≡ true) w
   ack_less true x e = rw e (back_less true)
   ack_less false x e = rw e (back_less false)
 
-  pub put_less : (g : Settings) (p : List ℕ) (clock : ℕ) (q t b u : List ℕ) (x : B.Job) (e : Option Answer) → Ended g p clock q t b x u e → LessBy (job_at s.jobs j).stage x e
+  pub put_less : (g : Settings) (p : List ℕ) (clock : ℕ) (q t b u : List ℕ) (x : B.Job) (e : Option Answer) → Ended g p clock q t b x u e
+      → LessBy (job_at s.jobs j).stage x e
       → potential (stepped_as s j (record { job = x; ending = e }) e).scheduler.jobs < potential s.jobs
   put_less g p clock q t b u x None k h = going_less x (job_flag g x (noted p clock) q t k.holding) h
   put_less g p clock q t b u x (Some a) k h = ack_less (is_ack a) x k.freed

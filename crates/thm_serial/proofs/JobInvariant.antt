@@ -99,6 +99,7 @@ module _ (g : Settings) where
         }
 
     -- handling a packet that meets none of D1 to D3, in a call that is not refused, is the rest of its verdict
-    pub handled_as : refusal_of g t b ≡ None → form_of p ≡ None → (v : Verdict) → check_verdict g (signed_by g.secret p) p clock ≡ v → handle_answer g t b p clock ≡ answer_of p t v
+    pub handled_as : refusal_of g t b ≡ None → form_of p ≡ None → (v : Verdict) → check_verdict g (signed_by g.secret p) p clock ≡ v
+        → handle_answer g t b p clock ≡ answer_of p t v
     unfolding handle_answer verdict_of
     handled_as r e v h = rw (r, e, h)

@@ -46,7 +46,8 @@ module _ (q t : List ℕ) where
   unfolding commit_answer count_answer
   commit_kept m skew a = by_count (eqb (count_marked m (slot_count t) t) 0) m (count_marked m (slot_count t) t) _ _ skew refl refl a
 
-  slot_kept : (f e : Bool) (j : B.Job) (k : ℕ) → acked (cond f (cond e (going (match_job j k q t)) (commit_move j q t)) (done (A.Discarded R.Length))).ending ≡ false
+  slot_kept : (f e : Bool) (j : B.Job) (k : ℕ)
+      → acked (cond f (cond e (going (match_job j k q t)) (commit_move j q t)) (done (A.Discarded R.Length))).ending ≡ false
       → cond f (cond e t (commit_table q j.marks t)) t ≡ t
   unfolding commit_move
   slot_kept true true j k a = refl

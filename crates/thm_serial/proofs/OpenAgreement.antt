@@ -21,7 +21,8 @@ use Rattle.thm_serial.proofs.Refusals.{open_admitted}
 use Rattle.thm_serial.proofs.Agreement.{Agree, unchanged}
 use Rattle.thm_serial.proofs.OpenedJob.{room, opened}
 
-module _ (s : D.Scheduler) (t store : List ℕ) (ns : List Note) (h : Tied (record { scheduler = s; table = t; store = store }) ns) (p : List ℕ) (clock : ℕ) where
+module _ (s : D.Scheduler) (t store : List ℕ) (ns : List Note) (h : Tied (record { scheduler = s; table = t; store = store }) ns) (p : List ℕ)
+    (clock : ℕ) where
   abbrev before : World
   before = record { scheduler = s; table = t; store = store }
 
@@ -42,6 +43,7 @@ module _ (s : D.Scheduler) (t store : List ℕ) (ns : List Note) (h : Tied (reco
   by_open None (Some d) e i = unchanged s t store ns h (O.Discarded d) []
   by_open (Some r) d e i = unchanged s t store ns h (O.Refused r) []
 
-  pub open_agrees : (f : Bool) → Agree (length store) (call (Open p clock) before) (serial_call (Open p clock) f (length store) (serial_of before ns))
+  pub open_agrees : (f : Bool)
+      → Agree (length store) (call (Open p clock) before) (serial_call (Open p clock) f (length store) (serial_of before ns))
   unfolding call serial_call open_called open_store serial_open
   open_agrees f = rw (← (flags (settings_of s) s.jobs ns store t h.each)) (by_open refusal (form_of p) refl refl)

@@ -29,14 +29,16 @@ pub some_block : (n : ℕ) → 0 < block_count n
 unfolding block_count
 some_block n = omega arith
 
-module _ (s : D.Scheduler) (t store : List ℕ) (ns : List Note) (h : Tied (record { scheduler = s; table = t; store = store }) ns) (p : List ℕ) (clock : ℕ) where
+module _ (s : D.Scheduler) (t store : List ℕ) (ns : List Note) (h : Tied (record { scheduler = s; table = t; store = store }) ns) (p : List ℕ)
+    (clock : ℕ) where
   abbrev before : World
   before = record { scheduler = s; table = t; store = store }
 
   abbrev pub room : List ℕ → ℕ → List ℕ
   room l j = write l (j * 4096) (take (length_of p) p)
 
-  first_holds : (j : ℕ) → form_of p ≡ None → j < 4 → length store ≡ 16384 → Holding (settings_of s) (first_job (length_of p) clock) p clock (part_of j (room store j)) t
+  first_holds : (j : ℕ) → form_of p ≡ None → j < 4 → length store ≡ 16384
+      → Holding (settings_of s) (first_job (length_of p) clock) p clock (part_of j (room store j)) t
   first_holds j e l z =
       record {
         long = refl;
@@ -59,7 +61,8 @@ module _ (s : D.Scheduler) (t store : List ℕ) (ns : List Note) (h : Tied (reco
           count = simp length-set h.count;
           notes = simp length-set h.notes;
           each =
-              stored (settings_of s) s.jobs ns (room store j) t j (first_job (length_of p) clock) (noted p clock) (omega (arith, h.count)) (omega (arith, h.notes))
+              stored (settings_of s) s.jobs ns (room store j) t j (first_job (length_of p) clock) (noted p clock) (omega (arith, h.count))
+              (omega (arith, h.notes))
               (first_holds j e l z) (λ i ne. rw (opened_other p e store j i ne) (h.each i));
         };
         size = length-write store (j * 4096) (take (length_of p) p);

@@ -25,7 +25,8 @@ use Rattle.thm_serial.specs.Steps.{acks}
 
 module _ (s : D.Scheduler) (j i : ℕ) (other : i ≡ j → ⊥) where
   module _ (m : M.Moved) where
-    by_answer : (a : A'.Answer) → is_ack a ≡ false → job_at (cond (is_ack a) (restart_all (with_job s j m.job)) (with_job s j m.job)).jobs i ≡ job_at s.jobs i
+    by_answer : (a : A'.Answer) → is_ack a ≡ false
+        → job_at (cond (is_ack a) (restart_all (with_job s j m.job)) (with_job s j m.job)).jobs i ≡ job_at s.jobs i
     by_answer (A.Refused r) h = get_or-set_other s.jobs j i m.job free_job other
     by_answer (A.Discarded d) h = get_or-set_other s.jobs j i m.job free_job other
     by_answer (A.Stale skew) h = get_or-set_other s.jobs j i m.job free_job other
@@ -45,7 +46,8 @@ module _ (s : D.Scheduler) (j i : ℕ) (other : i ≡ j → ⊥) where
   by_drop None = get_or-set_other s.jobs j i free_job free_job other
   by_drop (Some r) = refl
 
-made_by : (s : D.Scheduler) (j : ℕ) (x : Option Refusal) → settings_of (unless_refused s x (called (with_job s j free_job) O.Dropped)).scheduler ≡ settings_of s
+made_by : (s : D.Scheduler) (j : ℕ) (x : Option Refusal)
+    → settings_of (unless_refused s x (called (with_job s j free_job) O.Dropped)).scheduler ≡ settings_of s
 made_by s j None = refl
 made_by s j (Some r) = refl
 
@@ -53,11 +55,13 @@ made_by s j (Some r) = refl
 
 module _ (j : ℕ) (w : World) where
   -- a step that does not end in ACK restarts nobody
-  pub step_others : (b : List ℕ) → acks (call (Step j b) w).out.outcome ≡ false → (i : ℕ) → (i ≡ j → ⊥) → job_at (call (Step j b) w).world.scheduler.jobs i ≡ job_at w.scheduler.jobs i
+  pub step_others : (b : List ℕ) → acks (call (Step j b) w).out.outcome ≡ false → (i : ℕ) → (i ≡ j → ⊥)
+      → job_at (call (Step j b) w).world.scheduler.jobs i ≡ job_at w.scheduler.jobs i
   unfolding call step_called
   step_others b h i other =
       let s = w.scheduler in
-      by_step s j i other (moved_of s j w.table w.store) (step_refusal (open_at s.jobs) (length w.store) j w.table b) (moved_of s j w.table w.store).ending h
+      by_step s j i other (moved_of s j w.table w.store) (step_refusal (open_at s.jobs) (length w.store) j w.table b)
+      (moved_of s j w.table w.store).ending h
 
   -- nor does a drop
   pub drop_others : (i : ℕ) → (i ≡ j → ⊥) → job_at (call (Drop j) w).world.scheduler.jobs i ≡ job_at w.scheduler.jobs i

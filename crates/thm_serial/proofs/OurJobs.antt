@@ -38,13 +38,15 @@ checked_placed : (n : ℕ) (x : Result ℤ Answer) (j : B.Job) → JobOurs n (ch
 checked_placed n (Err a) j = tt
 checked_placed n (Ok k) j = tt
 
-slot_placed : (f e : Bool) (n k : ℕ) (j : B.Job) (q t : List ℕ) → JobOurs n (cond f (cond e (going (match_job j k q t)) (commit_move j q t)) (done (A.Discarded R.Length))).job
+slot_placed : (f e : Bool) (n k : ℕ) (j : B.Job) (q t : List ℕ)
+    → JobOurs n (cond f (cond e (going (match_job j k q t)) (commit_move j q t)) (done (A.Discarded R.Length))).job
 unfolding match_job commit_move
 slot_placed true true n k j q t = tt
 slot_placed true false n k j q t = tt
 slot_placed false e n k j q t = tt
 
-stage_placed : (g : Settings) (n : ℕ) (x : S.Stage) (j : B.Job) (q t : List ℕ) → length g.secret ≡ n → j.stage ≡ x → Placed n x j.length → JobOurs n (moved_at g x j q t).job
+stage_placed : (g : Settings) (n : ℕ) (x : S.Stage) (j : B.Job) (q t : List ℕ) → length g.secret ≡ n → j.stage ≡ x → Placed n x j.length
+    → JobOurs n (moved_at g x j q t).job
 unfolding hash_job check_move slot_move
 stage_placed g n Free j q t e i h = rw i h
 stage_placed g n (Hash k) j q t e i h = rw e (hash_placed (ltb (k + 1) (block_count (j.length + n))) k n j.length refl h)

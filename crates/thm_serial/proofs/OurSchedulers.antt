@@ -24,7 +24,8 @@ use Rattle.sched_state.specs.declared.Scheduler as D
 use Rattle.sched_state.specs.declared.Outcome.TheVariants as O
 use Rattle.sched_state.specs.Scheduler.{settings_of, job_at, open_at, lowest_free, with_job, restart_all, part_of, Ours}
 use Rattle.sched_state.specs.Refusals.{open_refusal, step_refusal, drop_refusal}
-use Rattle.sched_state.specs.Calls.{called, unless_refused, opened_as, is_ack, stepped_as, moved_of, open_called, step_called, drop_called, started_as, start_called, ended_as, end_called}
+use Rattle.sched_state.specs.Calls.{called, unless_refused, opened_as, is_ack, stepped_as, moved_of}
+use Rattle.sched_state.specs.Calls.{open_called, step_called, drop_called, started_as, start_called, ended_as, end_called}
 use Rattle.sched_state.specs.Runs.{Call, Open, Step, Drop, Start, End, World, call}
 use Rattle.thm_serial.proofs.Invariant.{open_below}
 use Rattle.thm_serial.proofs.Refusals.{step_admitted, drop_admitted, open_admitted}
@@ -71,7 +72,8 @@ module _ (s : D.Scheduler) (o : Ours s) where
 
   by_open : (f : Option Refusal) (d : Option Discard) (p : List ℕ) (clock : ℕ) → (f ≡ None → lowest_free (open_at s.jobs) < 4) → form_of p ≡ d
       → Ours (unless_refused s f (opened_as s p clock d)).scheduler
-  by_open None None p clock l e = stored_ours (lowest_free (open_at s.jobs)) (first_job (length_of p) clock) (l refl) (first_ours s.secret_size p clock e)
+  by_open None None p clock l e =
+      stored_ours (lowest_free (open_at s.jobs)) (first_job (length_of p) clock) (l refl) (first_ours s.secret_size p clock e)
   by_open None (Some d) p clock l e = o
   by_open (Some r) d p clock l e = o
 

@@ -52,4 +52,5 @@ module _ (p : List ℕ) (good : form_of p ≡ None) (store : List ℕ) (j : ℕ)
     where
       go : (b : Bool) → ltb i j ≡ b → part_of i (write store (j * 4096) (take (length_of p) p)) ≡ part_of i store
       go true e = let l = ltb-true i j e in part_before store (j * 4096) (take (length_of p) p) (i * 4096) 4096 (omega arith)
-      go false e = let l = ltb-false i j e in part-after store (j * 4096) (take (length_of p) p) (i * 4096) 4096 (rw kept (omega (arith, sized.high)))
+      go false e =
+          let l = ltb-false i j e in part-after store (j * 4096) (take (length_of p) p) (i * 4096) 4096 (rw kept (omega (arith, sized.high)))

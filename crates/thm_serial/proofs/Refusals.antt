@@ -64,8 +64,10 @@ module _ (f : ℕ → Bool) (size : ℕ) where
   unfolding open_refusal lowest_free
   open_admitted e =
       let fifth = passes (not (eqb size 16384)) R.StoreLength _ e in
-      let sixth = passes (eqb (lowest_free f) 4) R.NoFreeJob None fifth.1 in
-      (eqb-true size 16384 (not-false (eqb size 16384) fifth.0), below (f 0) (f 1) (f 2) (f 3) (lowest_free f) refl (eqb-false (lowest_free f) 4 sixth.0))
+      let sixth = passes (eqb (lowest_free f) 4) R.NoFreeJob None fifth.1 in (
+        eqb-true size 16384 (not-false (eqb size 16384) fifth.0),
+        below (f 0) (f 1) (f 2) (f 3) (lowest_free f) refl (eqb-false (lowest_free f) 4 sixth.0),
+      )
 
 -- handling refuses nothing that the step did not
 pub handling_admitted : (g : Settings) (f : ℕ → Bool) (size j : ℕ) (t b : List ℕ) → Made g → Admitted f size j t b → refusal_of g t b ≡ None

@@ -45,7 +45,8 @@ module _ (s : D.Scheduler) (j i : ℕ) (other : i ≡ j → ⊥) (m : M.Moved) w
   ack_by_lem true h = all_again (set s.jobs j m.job) i ∙ ap restarted (get_or-set_other s.jobs j i m.job free_job other)
   ack_by_lem false h = absurd (false≢true h)
 
-  ending_by : (e : Option A'.Answer) → acks (stepped_as s j m e).outcome ≡ true → job_at (stepped_as s j m e).scheduler.jobs i ≡ restarted (job_at s.jobs i)
+  ending_by : (e : Option A'.Answer) → acks (stepped_as s j m e).outcome ≡ true
+      → job_at (stepped_as s j m e).scheduler.jobs i ≡ restarted (job_at s.jobs i)
   ending_by None h = absurd (false≢true h)
   ending_by (Some a) h = ack_by_lem (is_ack a) h
 
@@ -86,7 +87,8 @@ check_freed j (Err a) = refl
 check_freed j (Ok k) = tt
 
 slot_freed : (j : B.Job) (k : ℕ) (q t : List ℕ) (x y : Bool)
-    → Freed (cond x (cond y (going (match_job j k q t)) (commit_move j q t)) (done (A.Discarded R.Length))).ending (cond x (cond y (going (match_job j k q t)) (commit_move j q t)) (done (A.Discarded R.Length))).job
+    → Freed (cond x (cond y (going (match_job j k q t)) (commit_move j q t)) (done (A.Discarded R.Length))).ending
+    (cond x (cond y (going (match_job j k q t)) (commit_move j q t)) (done (A.Discarded R.Length))).job
 unfolding commit_move
 slot_freed j k q t true true = tt
 slot_freed j k q t true false = refl
@@ -115,7 +117,8 @@ module _ (s : D.Scheduler) (j : ℕ) (m : M.Moved) where
   freed_ack false e = rw e (put_free s.jobs j)
 
   -- a step finished, so its answer is no refusal of the call
-  freed_by : (e : Option A'.Answer) → Freed e m.job → finished_by (stepped_as s j m e).outcome ≡ true → job_at (stepped_as s j m e).scheduler.jobs j ≡ free_job
+  freed_by : (e : Option A'.Answer) → Freed e m.job → finished_by (stepped_as s j m e).outcome ≡ true
+      → job_at (stepped_as s j m e).scheduler.jobs j ≡ free_job
   freed_by None f h = absurd (false≢true h)
   freed_by (Some a) f h = freed_ack (is_ack a) f
 
@@ -124,7 +127,8 @@ module _ (s : D.Scheduler) (j : ℕ) (m : M.Moved) where
   freed_step None e f h = freed_by e f h
   freed_step (Some r) e f h = absurd (false≢true h)
 
-pub done_frees : (j : ℕ) (w : World) (b : List ℕ) → finished_by (call (Step j b) w).out.outcome ≡ true → job_at (call (Step j b) w).world.scheduler.jobs j ≡ free_job
+pub done_frees : (j : ℕ) (w : World) (b : List ℕ) → finished_by (call (Step j b) w).out.outcome ≡ true
+    → job_at (call (Step j b) w).world.scheduler.jobs j ≡ free_job
 unfolding call step_called
 done_frees j w b h =
     let s = w.scheduler in

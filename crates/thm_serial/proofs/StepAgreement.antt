@@ -42,7 +42,8 @@ module _ (s : D.Scheduler) (t store : List ℕ) (ns : List Note) (h : Tied (reco
 
   finish_agrees : (f : Bool) (p : List ℕ) (clock j : ℕ) (b u : List ℕ) (x : B.Job) (a : A.Answer) → is_ack a ≡ f → open_at s.jobs j ≡ true
       → Finished (settings_of s) p clock (part_of j store) t b x u a
-      → Agree (length store) (did (called (cond f (restart_all (with_job s j x)) (with_job s j x)) (O.Done a)) (reply_as (settings_of s).secret (part_of j store) b a) u store)
+      → Agree (length store) (did (called (cond f (restart_all (with_job s j x)) (with_job s j x)) (O.Done a))
+      (reply_as (settings_of s).secret (part_of j store) b a) u store)
       (told_of (noted p clock) j b true)
   finish_agrees true p clock j b u x a e o k =
       record {
@@ -61,8 +62,10 @@ module _ (s : D.Scheduler) (t store : List ℕ) (ns : List Note) (h : Tied (reco
         size = refl;
       }
 
-  put_agrees : (p : List ℕ) (clock j : ℕ) (b u : List ℕ) (x : B.Job) (e : Option A.Answer) → get_or ns j unnoted ≡ noted p clock → open_at s.jobs j ≡ true
-      → Ended (settings_of s) p clock (part_of j store) t b x u e → Agree (length store) (done-of j b u x e) (told_of (noted p clock) j b (finished (done-of j b u x e).out))
+  put_agrees : (p : List ℕ) (clock j : ℕ) (b u : List ℕ) (x : B.Job) (e : Option A.Answer) → get_or ns j unnoted ≡ noted p clock
+      → open_at s.jobs j ≡ true
+      → Ended (settings_of s) p clock (part_of j store) t b x u e
+      → Agree (length store) (done-of j b u x e) (told_of (noted p clock) j b (finished (done-of j b u x e).out))
   put_agrees p clock j b u x None i o k =
       let l = open_below s.jobs j o in
       let same : set ns j (noted p clock) ≡ ns = ap (set ns j) (sym i) ∙ set-get_or ns j unnoted in
@@ -74,7 +77,9 @@ module _ (s : D.Scheduler) (t store : List ℕ) (ns : List Note) (h : Tied (reco
           made = h.made;
           count = simp length-set h.count;
           notes = h.notes;
-          each = rw same at (stored (settings_of s) s.jobs ns store t j x (noted p clock) l (omega (arith, h.count, h.notes)) k.holding (λ i ne. h.each i));
+          each =
+              rw same at (stored (settings_of s) s.jobs ns store t j x (noted p clock) l (omega (arith, h.count, h.notes)) k.holding
+              (λ i ne. h.each i));
         };
         size = refl;
       }
@@ -90,13 +95,15 @@ module _ (s : D.Scheduler) (t store : List ℕ) (ns : List Note) (h : Tied (reco
 
   by_note : (n : Note) (j : ℕ) (b : List ℕ) → get_or ns j unnoted ≡ n → JobTied (settings_of s) (job_at s.jobs j) n (part_of j store) t
       → step_refusal (open_at s.jobs) (length store) j t b ≡ None
-      → Agree (length store) (done-of j b (table_of j) (moving j).job (moving j).ending) (told_of n j b (finished (done-of j b (table_of j) (moving j).job (moving j).ending).out))
+      → Agree (length store) (done-of j b (table_of j) (moving j).job (moving j).ending)
+      (told_of n j b (finished (done-of j b (table_of j) (moving j).job (moving j).ending).out))
   unfolding open_at
   by_note unnoted j b i k r = let a = step_admitted (open_at s.jobs) (length store) j t b r in absurd (false≢true (sym k ∙ a.open_is))
   by_note (noted p clock) j b i k r =
       let a = step_admitted (open_at s.jobs) (length store) j t b r in
       put_agrees p clock j b (table_of j) (moving j).job (moving j).ending i a.open_is
-      (move_right (settings_of s) p clock (part_of j store) t b (handling_admitted (settings_of s) (open_at s.jobs) (length store) j t b h.made a) (job_at s.jobs j) k)
+      (move_right (settings_of s) p clock (part_of j store) t b (handling_admitted (settings_of s) (open_at s.jobs) (length store) j t b h.made a)
+      (job_at s.jobs j) k)
 
   module _ (j : ℕ) (b : List ℕ) where
     abbrev refusal : Option Refusal
@@ -109,10 +116,12 @@ module _ (s : D.Scheduler) (t store : List ℕ) (ns : List Note) (h : Tied (reco
         (cond (is_none f) (table_of j) t) store
 
     by_refusal : (f : Option Refusal) → refusal ≡ f
-        → Agree (length store) (did_of f) (serial_unless_refused b (serial_of before ns) f (told_of (get_or ns j unnoted) j b (finished (did_of f).out)))
+        → Agree (length store) (did_of f)
+        (serial_unless_refused b (serial_of before ns) f (told_of (get_or ns j unnoted) j b (finished (did_of f).out)))
     by_refusal None e = by_note (get_or ns j unnoted) j b refl (h.each j) e
     by_refusal (Some r) e = unchanged s t store ns h (O.Refused r) b
 
-    pub step_agrees : Agree (length store) (call (Step j b) before) (serial_call (Step j b) (finished (call (Step j b) before).out) (length store) (serial_of before ns))
+    pub step_agrees : Agree (length store) (call (Step j b) before)
+        (serial_call (Step j b) (finished (call (Step j b) before).out) (length store) (serial_of before ns))
     unfolding call serial_call step_called step_table step_reply serial_step note_at
     step_agrees = rw (← (flags (settings_of s) s.jobs ns store t h.each)) (by_refusal refusal refl)

@@ -25,7 +25,8 @@ use Rattle.sched_state.specs.declared.Scheduler as D
 use Rattle.sched_state.specs.declared.Outcome.TheVariants as O
 use Rattle.sched_state.specs.Scheduler.{settings_of, job_at, open_at, with_job, part_of}
 use Rattle.sched_state.specs.Refusals.{open_refusal, step_refusal, drop_refusal}
-use Rattle.sched_state.specs.Calls.{called, unless_refused, opened_as, stepped_as, moved_of, open_called, step_called, drop_called, started_as, start_called, ended_as, end_called}
+use Rattle.sched_state.specs.Calls.{called, unless_refused, opened_as, stepped_as, moved_of}
+use Rattle.sched_state.specs.Calls.{open_called, step_called, drop_called, started_as, start_called, ended_as, end_called}
 use Rattle.sched_state.specs.declared.Called as C
 use Rattle.sched_state.specs.Runs.{Call, Open, Step, Drop, Start, End, World, call, run}
 use Rattle.thm_serial.specs.Serial.{Note, unnoted, noted}
@@ -45,12 +46,14 @@ Spent js c = quiet_by c.outcome ≡ true → potential c.scheduler.jobs + counts
 module _ (s : D.Scheduler) (t store : List ℕ) (ns : List Note) (h : Tied (record { scheduler = s; table = t; store = store }) ns) where
   -- ---- a step
 
-  few_blocks : (j : B.Job) (p : List ℕ) (clock : ℕ) (q u : List ℕ) → Holding (settings_of s) j p clock q u → block_count (j.length + length (settings_of s).secret) ≤ 66
+  few_blocks : (j : B.Job) (p : List ℕ) (clock : ℕ) (q u : List ℕ) → Holding (settings_of s) j p clock q u
+      → block_count (j.length + length (settings_of s).secret) ≤ 66
   few_blocks j p clock q u k =
       let z = form_sized p k.good in
       blocks_most (j.length + length (settings_of s).secret) (omega (arith, k.long, z.high, h.made.short))
 
-  by_note : (n : Note) (j : ℕ) (b : List ℕ) → JobTied (settings_of s) (job_at s.jobs j) n (part_of j store) t → step_refusal (open_at s.jobs) (length store) j t b ≡ None
+  by_note : (n : Note) (j : ℕ) (b : List ℕ) → JobTied (settings_of s) (job_at s.jobs j) n (part_of j store) t
+      → step_refusal (open_at s.jobs) (length store) j t b ≡ None
       → potential (stepped_as s j (moved_of s j t store) (moved_of s j t store).ending).scheduler.jobs < potential s.jobs
   unfolding open_at moved
   by_note unnoted j b k r = let a = step_admitted (open_at s.jobs) (length store) j t b r in absurd (false≢true (sym k ∙ a.open_is))
@@ -58,8 +61,10 @@ module _ (s : D.Scheduler) (t store : List ℕ) (ns : List Note) (h : Tied (reco
       let a = step_admitted (open_at s.jobs) (length store) j t b r in
       put_less s j a.open_is (settings_of s) p clock (part_of j store) t b (moved_table (settings_of s) (job_at s.jobs j) (part_of j store) t)
       (moved_of s j t store).job (moved_of s j t store).ending
-      (move_right (settings_of s) p clock (part_of j store) t b (handling_admitted (settings_of s) (open_at s.jobs) (length store) j t b h.made a) (job_at s.jobs j) k)
-      (moved_less (settings_of s) (job_at s.jobs j).stage (job_at s.jobs j) (part_of j store) t (few_blocks (job_at s.jobs j) p clock (part_of j store) t k) a.open_is)
+      (move_right (settings_of s) p clock (part_of j store) t b (handling_admitted (settings_of s) (open_at s.jobs) (length store) j t b h.made a)
+      (job_at s.jobs j) k)
+      (moved_less (settings_of s) (job_at s.jobs j).stage (job_at s.jobs j) (part_of j store) t
+      (few_blocks (job_at s.jobs j) p clock (part_of j store) t k) a.open_is)
 
   one_step : (j : ℕ) (m : M.Moved) (e : Option Answer) → counts_by (stepped_as s j m e).outcome ≡ 1
   one_step j m None = refl

@@ -38,7 +38,8 @@ module _ (s : D.Scheduler) (j : ℕ) (t b store : List ℕ) where
 
   table_by : (f : Option Refusal) → acks (shown f).outcome ≡ false → cond (is_none f) (moved_table (settings_of s) here (part_of j store) t) t ≡ t
   unfolding moved moved_table
-  table_by None h = stage_kept (part_of j store) t (settings_of s) here here.stage (sym (acks_by (moved_of s j t store) (moved_of s j t store).ending) ∙ h)
+  table_by None h =
+      stage_kept (part_of j store) t (settings_of s) here here.stage (sym (acks_by (moved_of s j t store) (moved_of s j t store).ending) ∙ h)
   table_by (Some r) h = refl
 
   early_by : (f : Option Refusal) → awaits here.stage t ≡ false → cond (is_none f) (moved_table (settings_of s) here (part_of j store) t) t ≡ t
@@ -53,11 +54,13 @@ module _ (s : D.Scheduler) (j : ℕ) (t b store : List ℕ) where
   reply_as_lem q (A.Nak c skew n) h = absurd (true≢false h)
   reply_as_lem q (A.Ack k skew n) h = absurd (true≢false h)
 
-  reply_after_lem : (m : M.Moved) (e : Option A'.Answer) → replies (stepped_as s j m e).outcome ≡ false → reply_after (settings_of s).secret (part_of j store) b e ≡ b
+  reply_after_lem : (m : M.Moved) (e : Option A'.Answer) → replies (stepped_as s j m e).outcome ≡ false
+      → reply_after (settings_of s).secret (part_of j store) b e ≡ b
   reply_after_lem m None h = refl
   reply_after_lem m (Some a) h = reply_as_lem (part_of j store) a h
 
-  reply_by : (f : Option Refusal) → replies (shown f).outcome ≡ false → cond (is_none f) (reply_after (settings_of s).secret (part_of j store) b (moved_of s j t store).ending) b ≡ b
+  reply_by : (f : Option Refusal) → replies (shown f).outcome ≡ false
+      → cond (is_none f) (reply_after (settings_of s).secret (part_of j store) b (moved_of s j t store).ending) b ≡ b
   reply_by None h = reply_after_lem (moved_of s j t store) (moved_of s j t store).ending h
   reply_by (Some r) h = refl
 

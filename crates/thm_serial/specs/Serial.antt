@@ -75,7 +75,8 @@ handled (noted p clock) j b s =
 -- a step neither refused nor finished changes nothing and answers only that it did not finish
 unfoldable pub serial_step : ℕ → List ℕ → Bool → ℕ → Serial → SerialDid
 serial_step j b finished size s =
-    serial_unless_refused b s (step_refusal (noted_at s.notes) size j s.table b) (cond finished (handled (note_at s.notes j) j b s) (serial_did Going b s))
+    serial_unless_refused b s (step_refusal (noted_at s.notes) size j s.table b)
+    (cond finished (handled (note_at s.notes j) j b s) (serial_did Going b s))
 
 -- drop strikes the note
 unfoldable pub serial_drop : ℕ → Serial → SerialDid
