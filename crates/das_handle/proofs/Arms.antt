@@ -44,6 +44,16 @@ only_passed p (J.Stale i) k e = absurd (false≢true (ap passes e))
 only_passed p (J.Nak c i) k e = absurd (false≢true (ap passes e))
 only_passed p (J.Passed i) k e = (i, refl)
 
+pub passed_commits : (g : Settings) (q : List ℕ) (clock : ℕ) (x : Result ℤ D.Answer) → x ≡ judged_as q (check_verdict g true q clock) → (k : ℤ) → x ≡ Ok k → (n : ℕ) → Sized q n
+    → Committable q
+passed_commits g q clock x is k e n sized =
+    let v = only_passed q (check_verdict g true q clock) k (sym is ∙ e) in
+    record {
+      fits = passed_misfit g q clock (check_verdict g true q clock) refl v.0 v.1;
+      once = passed_once g q clock (check_verdict g true q clock) refl v.0 v.1;
+      short = λ c. passed_short g q clock (check_verdict g true q clock) refl n c v.0 v.1 sized;
+    }
+
 -- the buffer after a judgement is as long as before
 judged_long : (secret p b : List ℕ) (x : Result ℤ D.Answer) → length (reply_judged secret p b x) ≡ length b
 judged_long secret p b (Err (A.Refused r)) = refl
@@ -74,15 +84,6 @@ module _ (g : Settings) (p q t b u : List ℕ) (same : q ≡ p) (clock : ℕ) (x
   module _ (k : ℤ) (e : x ≡ Ok k) where
     pub passed_room : 4096 ≤ length b → 4096 ≤ length u
     passed_room h = rw (left, judged_long g.secret q b x) h
-
-    pub passed_commits : (n : ℕ) → Sized q n → Committable q
-    passed_commits n sized =
-        let v = only_passed q (check_verdict g true q clock) k (sym is ∙ e) in
-        record {
-          fits = passed_misfit g q clock (check_verdict g true q clock) refl v.0 v.1;
-          once = passed_once g q clock (check_verdict g true q clock) refl v.0 v.1;
-          short = λ c. passed_short g q clock (check_verdict g true q clock) refl n c v.0 v.1 sized;
-        }
 
     module _ (k' : ℤ) (i : k' ≡ k) (r : D.Answer) (h : r ≡ count_answer q (match_count (area_of q) t) k') where
       pub passed_answer : r ≡ answer_of p t (check_verdict g true p clock)

@@ -16,13 +16,7 @@ use packet_form::Packet;
 use packet_request::Request;
 
 // No cause up to 6 applies: the live sessions that match are changed, or there are none.
-fn matched(
-    t: &mut [u8],
-    reply: &mut [u8],
-    request: &Request,
-    secret: &[u8],
-    skew: i64,
-) -> Answer
+fn matched(t: &mut [u8], reply: &mut [u8], request: &Request, secret: &[u8], skew: i64) -> Answer
     requires committable { Committable request.now.packet.bytes.now }
     requires room { 4096 ≤ length reply.old }
     ensures value { result ≡ count_answer request.now.packet.bytes.now (match_count (area_of request.now.packet.bytes.now) t.old) skew }
