@@ -6,7 +6,6 @@ use mathlib.Core.Path.{◌≡◌, refl, sym, ◌∙◌}
 use mathlib.Core.Bool.{Bool, true, false, not}
 use mathlib.Core.List.{List}
 use Prim.Native.Nat.{ℕ, ◌≤◌}
-use native.Mathlib.Omega.{arith}
 use borrow.Author.Tests.{eq-eqb, ltb-false}
 use lib.Dec.{eqb}
 use lib.IntN.{ℤ}
@@ -57,7 +56,7 @@ module _ (g : Settings) (p : List ℕ) (clock : ℕ) (k : ℤ) where
   signed_true : (b : Bool) → check_verdict g b p clock ≡ J.Passed k → b ≡ true
   unfolding check_verdict
   signed_true true e = refl
-  signed_true false e = let o : ◌≡◌ {A = ℕ} 0 1 = cc in absurd (omega arith)
+  signed_true false e = cc
 
   pub passing : (signed : Bool) → check_verdict g signed p clock ≡ J.Passed k → Passing g signed p clock
   unfolding fresh_verdict

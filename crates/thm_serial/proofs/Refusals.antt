@@ -1,7 +1,7 @@
 -- A call that is not refused passed each test of its refusals. So the request that a step finishes is not refused by handling either: table and
 -- reply buffer passed at the step, secret and identity when the scheduler was made.
 -- Assumes nothing.
-use mathlib.Core.Path.{◌≡◌, refl, sym}
+use mathlib.Core.Path.{◌≡◌, refl}
 use mathlib.Core.Bool.{Bool, true, false, cond, not, ◌||◌}
 use mathlib.Core.List.{List}
 use Prim.Native.Nat.{ℕ, ◌<◌}
@@ -10,7 +10,6 @@ use borrow.Author.Tests.{eqb-true, eqb-false}
 use lib.Dec.{eqb, ltb}
 use lib.ListN.{length}
 use Rattle.std.specs.Prelude.{Option, Some, None}
-use Rattle.std.proofs.lemmas.Option.{none-some}
 use Rattle.refusals.specs.declared.Refusal.{Refusal}
 use Rattle.refusals.specs.declared.Refusal.TheVariants as R
 use Rattle.octet_numbers.proofs.Bools.{neither, not-false}
@@ -23,7 +22,7 @@ use Rattle.thm_serial.proofs.Invariant.{Made}
 
 -- a chain of tests that refuses nothing passed the first
 passes : (f : Bool) (r : Refusal) (a : Option Refusal) → cond f (Some r) a ≡ None → (f ≡ false) × (a ≡ None)
-passes true r a e = absurd (none-some r (sym e))
+passes true r a e = cc
 passes false r a e = (refl, e)
 
 -- a step; f tells which jobs are open
