@@ -31,13 +31,6 @@ packet_laid s n p z b b₁ b₂ b₃ first second third e low fits none =
     let l₂ : length (take 4 p ++ z) ≡ 20 = rw (length-append, e, l₁) in
     rw (drop-take 20 n p, ← e) (third (take 4 p ++ z) l₂ (second (take 4 p) l₁ (first [] refl none)))
 
--- a count of bits that two bytes hold
-pub count_bytes : (v : ℕ) → v < 65536 → v % 256 ∷ v / 256 ∷ 0 ∷ 0 ∷ 0 ∷ 0 ∷ 0 ∷ 0 ∷ [] ≡ le_bytes 8 v
-count_bytes v h =
-    let x : v / 256 % 256 ≡ v / 256 = omega arith in
-    let y : v / 256 / 256 ≡ 0 = omega arith in
-    rw (x, y)
-
 take-replicate : (z n a : ℕ) → z ≤ n → take z (replicate n a) ≡ replicate z a
 take-replicate zero n a h = refl
 take-replicate (suc z) zero a h = absurd (omega arith)

@@ -36,8 +36,7 @@ fn count(t: usize) -> [u8; 8]
     requires { t < 8192 }
     ensures { result ≡ le_bytes 8 (t * 8) }
 {
-    let v = t * 8;
-    [(v % 256) as u8, (v / 256) as u8, 0, 0, 0, 0, 0, 0]
+    (t * 8).to_le_bytes()
 }
 
 // The padding after a message of t bytes.
@@ -54,6 +53,7 @@ fn lay_padding(buf: &mut [u8; 64], s: usize, t: usize)
 }
 
 // Block k of the signed request, with its padding.
+#[tactic(auto, unfolding(crate::specs::Block::block_count))]
 pub fn request_block(p: &[u8], n: usize, secret: &[u8], k: usize) -> [u8; 64]
     requires { (20 ≤ n) × (n ≤ length p.now) × (n ≤ 4096) × (length secret.now ≤ 64) × (k < block_count (n + length secret.now)) }
     ensures { result ≡ request_block k p.now n secret.now }

@@ -1,3 +1,1 @@
-mod Tests
 mod Blocks
-mod Cases

@@ -1,6 +1,7 @@
 -- The verdict on a request in numbers: what each of its cases is as seen from C.
 -- Assumes nothing.
 use Rattle.std.specs.Prelude.{List, ℕ, ◌+◌, ℤ, pos}
+use Rattle.refusals.specs.Numbers.{discard_number}
 use Rattle.rule_causes.specs.Causes.{error_cause}
 use Rattle.rule_verdict.specs.declared.Verdict as D
 use Rattle.rule_verdict.specs.declared.Verdict.TheVariants.{Discarded, Stale, Nak, Passed}
@@ -14,7 +15,7 @@ verdict g p clock = verdict_of g (signed_by g.secret p) p clock
 
 -- 0 passed, 100 + n discarded by Dn, else the NAK's cause
 unfoldable pub number_of : D.Verdict → ℕ
-number_of (Discarded d) = 100 + d
+number_of (Discarded d) = 100 + discard_number d
 number_of (Stale k) = 106
 number_of (Nak c k) = error_cause c
 number_of (Passed k) = 0

@@ -10,6 +10,7 @@ ghost use Rattle.probe_packets.specs.Refused.{auth_ok, mac_ok, blocks_ok};
 
 // The authenticator of a packet of Length n: auth is zeros for a request.
 #[unsafe(no_mangle)]
+#[tactic(auto, unfolding(probe_laws::specs::Probe::digest_room))]
 pub extern "C" fn probe_authenticator(
     p: &[u8],
     n: usize,
@@ -20,25 +21,20 @@ pub extern "C" fn probe_authenticator(
     ensures value { result ≡ answer (auth_ok n p.now auth.now out.old) }
     ensures out_after { out.new ≡ written (auth_ok n p.now auth.now out.old) (authenticator auth.now p.now n secret.now) out.old }
 {
-    if out.len() != 16 {
+    let Ok(auth) = <[u8; 16]>::try_from(auth) else {
+        return 1;
+    };
+    if out.len() != 16 || n < 20 || p.len() < n {
         return 1;
     }
-    if auth.len() != 16 {
-        return 1;
-    }
-    if n < 20 {
-        return 1;
-    }
-    if p.len() < n {
-        return 1;
-    }
-    let d = packet_auth::authenticator(p, n, auth, secret);
-    octet_copies::copy(out, 0, &d);
+    let d = packet_auth::authenticator(p, n, &auth, secret);
+    out.copy_from_slice(&d);
     0
 }
 
 // The Message-Authenticator whose value stands at place at.
 #[unsafe(no_mangle)]
+#[tactic(auto, unfolding(probe_laws::specs::Probe::digest_room))]
 pub extern "C" fn probe_mac(
     p: &[u8],
     n: usize,
@@ -50,66 +46,41 @@ pub extern "C" fn probe_mac(
     ensures value { result ≡ answer (mac_ok n at p.now auth.now out.old) }
     ensures out_after { out.new ≡ written (mac_ok n at p.now auth.now out.old) (message_authenticator auth.now p.now n at secret.now) out.old }
 {
-    if out.len() != 16 {
+    let Ok(auth) = <[u8; 16]>::try_from(auth) else {
+        return 1;
+    };
+    if out.len() != 16 || at < 20 || n < 16 || n - 16 < at || p.len() < n {
         return 1;
     }
-    if auth.len() != 16 {
-        return 1;
-    }
-    if at < 20 {
-        return 1;
-    }
-    if n < 16 {
-        return 1;
-    }
-    if n - 16 < at {
-        return 1;
-    }
-    if p.len() < n {
-        return 1;
-    }
-    let d = packet_mac::message_authenticator(p, n, auth, at, secret);
-    octet_copies::copy(out, 0, &d);
+    let d = packet_mac::message_authenticator(p, n, &auth, at, secret);
+    out.copy_from_slice(&d);
     0
 }
 
 // The authenticator of a request from the words after each of its blocks.
+#[tactic(auto, using(packet_blocks::proofs::Stepwise::blocks_none, crate::proofs::Blocks::words_more))]
 fn by_blocks(p: &[u8], n: usize, secret: &[u8]) -> [u8; 16]
     requires { (20 ≤ n) × (n ≤ length p.now) × (n ≤ 4096) × (length secret.now ≤ 64) }
     ensures { result ≡ authenticator zeros p.now n secret.now }
 {
-    let e = packet_blocks::block_count(n + secret.len());
     let mut q = md5_ops::initial();
-    let mut k = 0;
-    while k < e {
+    for k in 0..packet_blocks::block_count(n + secret.len()) {
         q = packet_blocks::hash_block(q, p, n, secret, k);
-        k += 1;
     }
     md5_padding::bytes_of(q)
 }
 
 // The authenticator of a request of Length n, worked out block by block.
 #[unsafe(no_mangle)]
+#[tactic(auto, unfolding(probe_laws::specs::Probe::digest_room))]
 pub extern "C" fn probe_blocks(p: &[u8], n: usize, secret: &[u8], out: &mut [u8]) -> u32
     ensures value { result ≡ answer (blocks_ok n p.now secret.now out.old) }
     ensures out_after { out.new ≡ written (blocks_ok n p.now secret.now out.old) (authenticator zeros p.now n secret.now) out.old }
 {
-    if out.len() != 16 {
-        return 1;
-    }
-    if n < 20 {
-        return 1;
-    }
-    if 4096 < n {
-        return 1;
-    }
-    if p.len() < n {
-        return 1;
-    }
-    if 64 < secret.len() {
+    if out.len() != 16 || !(20..=4096).contains(&n) || p.len() < n || 64 < secret.len() {
         return 1;
     }
     let d = by_blocks(p, n, secret);
-    octet_copies::copy(out, 0, &d);
+    out.copy_from_slice(&d);
     0
 }

@@ -1,56 +1,32 @@
 // The verdict on a request before any session is looked at, in numbers.
-ghost use Rattle.std.specs.Prelude.{◌≡◌, true, ◌+◌};
-ghost use Rattle.packet_form.specs.Discards.{Sized};
-ghost use Rattle.nas_settings.specs.Settings.{settings};
-ghost use Rattle.rule_verdict.specs.Discards.{signed_by};
-ghost use Rattle.rule_verdict.specs.Verdict.{check_verdict, verdict_of};
+ghost use Rattle.std.specs.Prelude.{◌≡◌};
+ghost use Rattle.nas_settings.specs.Settings.{settings, gate_settings};
 ghost use Rattle.probe_packets.specs.Told.{verdict, number_of, skew_of, stamped_of};
 
+use nas_settings::Gate;
+use packet_request::Request;
+use refusals::Discard;
 use rule_verdict::Verdict;
 
-// D5, D6 and causes 1 to 6 of a request that is rightly signed.
-fn check_signed(
-    p: &[u8],
-    n: usize,
-    secret: &[u8],
-    nas_ip: u32,
-    nas_id: &[u8],
-    clock: u32,
-) -> Verdict
-    requires { Sized p.now n }
-    ensures { result ≡ check_verdict (settings secret.now nas_ip nas_id.now) true p.now clock }
-{
-    let mut count = [0u8; 256];
-    let mut ends = [0u16; 256];
-    let mut sizes = [0u8; 256];
-    rule_verdict::pass::verdict(
-        true, p, n, secret, nas_ip, nas_id, clock, &mut count, &mut ends, &mut sizes,
-    )
-}
-
 // D1 to D6 and causes 1 to 6 of a packet, as `das_handle::handle` asks for them before any session.
-fn judge(p: &[u8], secret: &[u8], nas_ip: u32, nas_id: &[u8], clock: u32) -> Verdict
-    ensures { result ≡ verdict_of (settings secret.now nas_ip nas_id.now) (signed_by secret.now p.now) p.now clock }
+#[tactic(auto, unfolding(crate::specs::Told::verdict, rule_verdict::specs::Verdict::verdict_of, rule_verdict::specs::Verdict::check_verdict, rule_verdict::specs::Discards::signed_by))]
+fn judge(p: &[u8], gate: &Gate, clock: u32) -> Verdict
+    ensures { result ≡ verdict (gate_settings gate.now) p.now clock }
 {
-    let d = packet_form::form(p);
-    if d != 0 {
-        return Verdict::Discarded(d);
+    match packet_form::form(p) {
+        Err(d) => Verdict::Discarded(d),
+        Ok(packet) => {
+            if packet_auth::request_signed(&packet, gate.secret) {
+                return Verdict::of(&Request::of(packet), gate, clock);
+            }
+            Verdict::Discarded(Discard::Authenticator)
+        }
     }
-    let n = packet_form::length_of(p);
-    if packet_auth::request_signed(p, n, secret) {
-        return check_signed(p, n, secret, nas_ip, nas_id, clock);
-    }
-    Verdict::Discarded(4)
-}
-
-fn discard_number(d: u8) -> u32
-    ensures { result ≡ 100 + d }
-{
-    100 + d as u32
 }
 
 // 0 passed, 100 + n discarded by Dn, else the NAK's cause; and the skew, where a stamp is usable.
 #[unsafe(no_mangle)]
+#[tactic(auto, unfolding(crate::specs::Told::number_of, crate::specs::Told::skew_of, crate::specs::Told::stamped_of))]
 pub extern "C" fn probe_verdict(
     p: &[u8],
     secret: &[u8],
@@ -64,12 +40,16 @@ pub extern "C" fn probe_verdict(
     ensures skew_after { skew.new ≡ skew_of (verdict (settings secret.now nas_ip nas_id.now) p.now clock) }
     ensures stamped_after { stamped.new ≡ stamped_of (verdict (settings secret.now nas_ip nas_id.now) p.now clock) }
 {
-    let v = judge(p, secret, nas_ip, nas_id, clock);
-    match v {
+    let gate = Gate {
+        secret,
+        nas_ip,
+        nas_id,
+    };
+    match judge(p, &gate, clock) {
         Verdict::Discarded(d) => {
             *skew = 0;
             *stamped = 0;
-            discard_number(d)
+            100 + u32::from(d)
         }
         Verdict::Stale(k) => {
             *skew = k;
@@ -79,7 +59,7 @@ pub extern "C" fn probe_verdict(
         Verdict::Nak(cause, k) => {
             *skew = k;
             *stamped = 1;
-            rule_causes::error_cause(cause)
+            u32::from(cause)
         }
         Verdict::Passed(k) => {
             *skew = k;

@@ -11,7 +11,7 @@ use Rattle.std.specs.Prelude.{Option, Some, None}
 use Rattle.attr_walk.specs.Attributes.{attributes, any, found, first_of, on_first, count_of, kind_is}
 use Rattle.attr_walk.proofs.Searches.{any_none, only}
 use Rattle.packet_auth.specs.Signing.{zeros}
-use Rattle.rule_causes.specs.declared.Cause.{Cause}
+use Rattle.rule_causes.specs.declared.cause.Cause.{Cause}
 use Rattle.packet_form.specs.Packet.{area_of}
 use Rattle.packet_mac.specs.Discards.{wrong_mac, bad_mac}
 use Rattle.das_reply_parts.specs.Reply.{if_found, state_part, cause_part, proxy_part, body_of, maced, reply_length}
@@ -39,11 +39,11 @@ module _ (p : List ℕ) (no_24 : any (kind_is 24) (attributes (area_of p)) ≡ f
   unfolding state_part
   no_state = ap (if_found (area_of p)) (not_found (first_of (kind_is 24) (attributes (area_of p))) no_24)
 
-  pub body_rest : (c : Cause) → body_of p c ≡ cause_part c ++ proxy_part (area_of p)
+  pub body_rest : (c : Option Cause) → body_of p c ≡ cause_part c ++ proxy_part (area_of p)
   unfolding body_of
   body_rest c = rw no_state
 
-pub length_rest : (p : List ℕ) (c : Cause) → any (kind_is 24) (attributes (area_of p)) ≡ false → any (kind_is 80) (attributes (area_of p)) ≡ false
+pub length_rest : (p : List ℕ) (c : Option Cause) → any (kind_is 24) (attributes (area_of p)) ≡ false → any (kind_is 80) (attributes (area_of p)) ≡ false
     → reply_length p c ≡ 20 + (length (cause_part c) + length (proxy_part (area_of p)))
 unfolding reply_length packet_length
 length_rest p c h g = rw (body_rest p h c, no_part p g zeros) (omega (arith, length-append (cause_part c) (proxy_part (area_of p))))

@@ -6,6 +6,7 @@ use mathlib.Core.List.{List, [], ◌∷◌, ◌++◌, Memᴰ}
 use Prim.Native.Nat.{ℕ, suc, ◌+◌, ◌-◌}
 use native.Mathlib.Omega.{arith}
 use lib.ListN.{length, length-append}
+use Rattle.std.specs.Prelude.{Some, None}
 use Rattle.octet_numbers.proofs.Numbers.{length-be_bytes}
 use Rattle.octet_numbers.proofs.Part.{length_part}
 use Rattle.attr_walk.specs.declared.Attribute.{Attribute}
@@ -13,15 +14,14 @@ use Rattle.attr_walk.specs.declared.Step.TheVariants.{Found}
 use Rattle.attr_walk.specs.Attributes.{step_at, attributes, tiled, any, count_of, kind_is}
 use Rattle.attr_walk.proofs.Steps.{step_inv}
 use Rattle.attr_walk.proofs.Stands.{member_stands}
-use Rattle.rule_stamp.specs.declared.Stamp.TheVariants.{Usable}
 use Rattle.rule_stamp.specs.Stamp.{stamp_of, stale, skew_of}
-use Rattle.rule_causes.specs.declared.Cause.TheVariants.{MissingAttribute}
+use Rattle.rule_causes.specs.declared.cause.Cause.TheVariants.{MissingAttribute}
 use Rattle.rule_verdict.specs.declared.Verdict.TheVariants as J
 use Rattle.packet_form.specs.Packet.{length_of, area_of}
 use Rattle.nas_settings.specs.Settings.{Settings}
 use Rattle.packet_form.specs.Discards.{bad_length, bad_code, bad_attributes, form_of}
 use Rattle.rule_verdict.specs.Discards.{signed_by}
-use Rattle.rule_verdict.specs.Verdict.{nak_or, fresh_verdict, check_verdict, verdict_of}
+use Rattle.rule_verdict.specs.Verdict.{fresh_verdict, check_verdict, verdict_of}
 use Rattle.packet_form.proofs.Forms.{good_sized}
 use Rattle.das_reply_parts.specs.Reply.{as_came, cause_part, proxies_in, proxy_part, reply_length}
 use Rattle.das_reply.proofs.Sums.{first_size}
@@ -52,7 +52,7 @@ length_proxies : (s : List ℕ) → length (proxy_part s) ≡ bytes_of_type 33 (
 unfolding proxy_part
 length_proxies s = all_whole s (attributes s) (λ a m. member_stands s 0 a m)
 
-length_cause : length (cause_part MissingAttribute) ≡ 6
+length_cause : length (cause_part (Some MissingAttribute)) ≡ 6
 unfolding cause_part
 length_cause = ap (λ (k : ℕ). suc (suc k)) (length-be_bytes 4 _)
 
@@ -60,7 +60,7 @@ length_cause = ap (λ (k : ℕ). suc (suc k)) (length-be_bytes 4 _)
 
 module _ (g : Settings) (p : List ℕ) (clock stamp : ℕ) (sized : bad_length p ≡ false) (coded : bad_code p ≡ false) (tiles : tiled (area_of p) ≡ true) (long : length_of p ≡ 4096)
     (once : count_of (kind_is 55) (attributes (area_of p)) ≡ 1) (echoed : bytes_of_type 33 (attributes (area_of p)) ≡ 4070) (filled : any (empty_of 33) (attributes (area_of p)) ≡ false)
-    (signed : signed_by g.secret p ≡ true) (usable : stamp_of (area_of p) ≡ Usable stamp) (fresh : stale stamp clock ≡ false) where
+    (signed : signed_by g.secret p ≡ true) (usable : stamp_of (area_of p) ≡ Some stamp) (fresh : stale stamp clock ≡ false) where
   alone : any other (attributes (area_of p)) ≡ false
   alone =
       let z = good_sized p (length_of p) sized refl in
@@ -75,13 +75,13 @@ module _ (g : Settings) (p : List ℕ) (clock stamp : ℕ) (sized : bad_length p
   no_80 : any (kind_is 80) (attributes (area_of p)) ≡ false
   no_80 = none_kind (area_of p) alone filled 80 refl refl
 
-  whole_length : reply_length p MissingAttribute ≡ 4096
-  whole_length = length_rest p MissingAttribute no_24 no_80 ∙ omega (arith, length_cause, length_proxies (area_of p))
+  whole_length : reply_length p (Some MissingAttribute) ≡ 4096
+  whole_length = length_rest p (Some MissingAttribute) no_24 no_80 ∙ omega (arith, length_cause, length_proxies (area_of p))
 
   verdict : verdict_of g true p clock ≡ J.Nak MissingAttribute (skew_of stamp clock)
-  unfolding verdict_of form_of bad_attributes check_verdict fresh_verdict nak_or
+  unfolding verdict_of form_of bad_attributes check_verdict fresh_verdict
   verdict = rw (sized, coded, tiles, no_mac p no_80, usable, fresh, cause_missing (area_of p) alone filled once)
 
-  pub echo : (t b : List ℕ) → refusal_of g t b ≡ 0 → handle_answer g t b p clock ≡ Nak MissingAttribute (skew_of stamp clock) 4096
+  pub echo : (t b : List ℕ) → refusal_of g t b ≡ None → handle_answer g t b p clock ≡ Nak MissingAttribute (skew_of stamp clock) 4096
   unfolding handle_answer
   echo t b h = rw (h, signed, verdict, whole_length)

@@ -11,7 +11,7 @@ use Rattle.attr_walk.specs.declared.Attribute.{Attribute}
 use Rattle.std.specs.Prelude.{Some}
 use Rattle.attr_walk.specs.Attributes.{attributes, any, found, first_of, count_of, kind_is}
 use Rattle.attr_types.specs.Types.{supported, unsupported_in, misfit_of, malformed, among, naming_types, first_repeated, also, none}
-use Rattle.rule_causes.specs.declared.Cause.TheVariants.{MissingAttribute}
+use Rattle.rule_causes.specs.declared.cause.Cause.TheVariants.{MissingAttribute}
 use Rattle.rule_causes.specs.Causes.{mismatched, missing, invalid, cause_of}
 use Rattle.thm_examples.specs.Sizes.{empty_of}
 use Rattle.thm_examples.proofs.Alone.{other, none_strange, none-meets}
@@ -63,7 +63,7 @@ module _ (s : List ℕ) (alone : any other (attributes s) ≡ false) (filled : a
   none_names : any (among naming_types) (attributes s) ≡ false
   none_names = none_of (among naming_types) (λ a e. rw e) (λ a e h. rw e)
 
-  pub cause_missing : count_of (kind_is 55) (attributes s) ≡ 1 → (code nas_ip : ℕ) (nas_id : List ℕ) → cause_of code nas_ip nas_id s ≡ MissingAttribute
+  pub cause_missing : count_of (kind_is 55) (attributes s) ≡ 1 → (code nas_ip : ℕ) (nas_id : List ℕ) → cause_of code nas_ip nas_id s ≡ Some MissingAttribute
   unfolding cause_of invalid missing
   cause_missing once code nas_ip nas_id =
       let single : found (first_repeated none (attributes s)) ≡ false = once_only none (attributes s) alone (omega arith) in

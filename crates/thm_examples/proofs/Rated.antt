@@ -18,7 +18,6 @@ use Rattle.nas_settings.specs.Settings.{Settings}
 use Rattle.das_effects.specs.Matching.{matches_in}
 use Rattle.das_effects.specs.Changes.{rates_by, rates_at, rates_named, change_matching}
 use Rattle.das_effects.proofs.Altered as E
-use Rattle.das_effects.proofs.Rated as Q
 use Rattle.das_answer.specs.declared.Answer.TheVariants.{Ack}
 use Rattle.das_handle.specs.Handle.{handle_answer, table_as, handle_table}
 
@@ -43,7 +42,7 @@ module _ (g : Settings) (p : List ℕ) (clock : ℕ) (t b : List ℕ) (m n k : �
   table = ap (table_as p t) ack ∙ ap (λ (c : ℕ). change_matching c (area_of p) t) code
 
   pub down_rate_lem : down_rate (slot k (handle_table g t b p clock)) ≡ 64000
-  down_rate_lem = rw table (E.down_after (area_of p) t k l h 64000 (Q.down_set (area_of p) 64000 (ap (λ (r : Rates). r.down) named)) (omega arith))
+  down_rate_lem = rw table (E.down_after (area_of p) t k l h 64000 (ap (λ (r : Rates). r.down) named) (omega arith))
 
   pub up_rate_lem : up_rate (slot k (handle_table g t b p clock)) ≡ up_rate (slot k t)
-  up_rate_lem = rw table (E.up_same (area_of p) t k l h (Q.up_unset (area_of p) (ap (λ (r : Rates). r.up) named)))
+  up_rate_lem = rw table (E.up_same (area_of p) t k l h (ap (λ (r : Rates). r.up) named))

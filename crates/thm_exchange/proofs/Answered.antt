@@ -7,12 +7,11 @@ use Prim.Native.Nat.{ℕ, ◌+◌, ◌≤◌}
 use native.Mathlib.Omega.{arith}
 use borrow.Author.Tests.{eq-eqb, ne_eqb}
 use lib.Dec.{eqb}
-use Rattle.std.specs.Prelude.{None}
+use Rattle.std.specs.Prelude.{Option, None, is_some}
 use Rattle.octet_numbers.specs.Runs.{equal_bytes}
 use Rattle.packet_auth.specs.Signing.{authenticator}
-use Rattle.rule_causes.specs.declared.Cause.{Cause}
+use Rattle.rule_causes.specs.declared.cause.Cause.{Cause}
 use Rattle.packet_form.specs.Packet.{code_of, identifier_of, length_of, auth_of}
-use Rattle.rule_causes.specs.Causes.{applies}
 use Rattle.packet_form.specs.Discards.{bad_length, bad_attributes, form_of, Sized}
 use Rattle.packet_mac.specs.Discards.{bad_mac}
 use Rattle.das_reply_parts.specs.Reply.{body_of, maced, reply_length, head_of, reply_of}
@@ -26,9 +25,9 @@ one_or_two : (k : ℕ) (b : Bool) → (eqb (k + cond b 2 1) (k + 1) || eqb (k + 
 one_or_two k true = rw (ne_eqb (k + 2) (k + 1) (λ e. omega arith), eq-eqb (k + 2) (k + 2) refl)
 one_or_two k false = rw (eq-eqb (k + 1) (k + 1) refl)
 
-module _ (secret q : List ℕ) (n : ℕ) (c : Cause) (sized : Sized q n) (short : reply_length q c ≤ 4096) where
+module _ (secret q : List ℕ) (n : ℕ) (c : Option Cause) (sized : Sized q n) (short : reply_length q c ≤ 4096) where
   code : ℕ
-  code = code_of q + cond (applies c) 2 1
+  code = code_of q + cond (is_some c) 2 1
 
   pub good_length : bad_length (reply_of secret q c) ≡ false
   unfolding head_of code
@@ -54,7 +53,7 @@ module _ (secret q : List ℕ) (n : ℕ) (c : Cause) (sized : Sized q n) (short 
       rw (reply_is secret q c)
       (packet_mac_lem secret (auth_of q) (body_of q c) (maced q) code (identifier_of q) (reply_length q c) (body_plain q c) (length_auth q n sized) (length_is secret q c) short)
 
-  pub reply_passes : form_of q ≡ 0 → failure_of secret q (reply_of secret q c) ≡ None
+  pub reply_passes : form_of q ≡ None → failure_of secret q (reply_of secret q c) ≡ None
   unfolding failure_of bad_request bad_reply wrong_code wrong_identifier wrong_authenticator
   reply_passes form =
       rw (
@@ -62,7 +61,7 @@ module _ (secret q : List ℕ) (n : ℕ) (c : Cause) (sized : Sized q n) (short 
         good_length,
         good_attributes,
         reply_code secret q c,
-        one_or_two (code_of q) (applies c),
+        one_or_two (code_of q) (is_some c),
         reply_identifier secret q c,
         eq-eqb (identifier_of q) (identifier_of q) refl,
         good_authenticator,

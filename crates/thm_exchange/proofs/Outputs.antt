@@ -58,7 +58,7 @@ module _ (secret out : List ℕ) (d : Draft) (accepted : write_refusal secret ou
   unfolding part
   same = same_packet (request_of secret d) (write_output secret out d) (request_length d) sized more first
 
-  pub output_form : form_of (write_output secret out d) ≡ 0
+  pub output_form : form_of (write_output secret out d) ≡ None
   output_form = same.form ∙ written_form secret out d accepted
 
   pub output-signed : signed_by secret (write_output secret out d) ≡ true

@@ -56,7 +56,7 @@ module _ (secret out : List ℕ) (d : Draft) (accepted : write_refusal secret ou
   written_short = request_short d given
 
   -- D1 to D3
-  pub written_form : form_of (request_of secret d) ≡ 0
+  pub written_form : form_of (request_of secret d) ≡ None
   unfolding form_of bad_code
   written_form =
       rw (

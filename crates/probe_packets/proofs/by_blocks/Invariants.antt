@@ -1,11 +1,7 @@
 -- `probe_packets::by_blocks` meets its contract: after k turns the words are those after k blocks.
 use mathlib.Core.Path.{◌≡◌}
-use Prim.Native.Nat.{◌≤◌, ◌-◌}
 use Rattle.packet_blocks.specs.Block.{hashed_to}
 use Rattle.probe_packets.proofs.by_blocks.Given as goal
 
 abbrev pub invariant-loop-k : goal.invariant-loop-k
-invariant-loop-k l = (l.k ≤ l.e) × (l.q ≡ hashed_to l.k l.p l.n l.secret)
-
-abbrev pub decreases-loop-k : goal.decreases-loop-k
-decreases-loop-k l = l.e - l.k
+invariant-loop-k l = l.q ≡ hashed_to l.k l.p l.n l.secret
