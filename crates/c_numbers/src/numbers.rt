@@ -57,7 +57,7 @@ pub fn tell(a: Answer, old: Told) -> Told
         },
         Answer::Discarded(d) => Told::alone(100 + u32::from(d)),
         Answer::Stale(skew) => Told::stamped(106, 0, 0, skew),
-        Answer::Nak(cause, skew, n) => Told::stamped(rule_causes::error_cause(cause), 0, n, skew),
+        Answer::Nak(cause, skew, n) => Told::stamped(u32::from(cause), 0, n, skew),
         Answer::Ack(count, skew, n) => Told::stamped(0, count, n, skew),
     }
 }

@@ -5,7 +5,8 @@ use Rattle.das_answer.specs.declared.Answer.{Answer}
 use Rattle.das_answer.specs.declared.Answer.TheVariants as A
 use Rattle.sched_state.specs.declared.Outcome as O
 use Rattle.sched_state.specs.declared.Outcome.TheVariants.{Refused, Discarded, Opened, Going, Done, Dropped, Started, Ended}
-use Rattle.c_numbers.specs.Numbers.{Told, alone, answer_told}
+use Rattle.c_numbers.specs.declared.numbers.Told.{Told}
+use Rattle.c_numbers.specs.Numbers.{alone, answer_told}
 
 -- a refusal, a discard and a finished request: as whole handling tells the same answer; 600 not finished; else 0, done
 unfoldable pub told_by : O.Outcome → Told → Told

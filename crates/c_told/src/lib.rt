@@ -2,22 +2,21 @@
 #![tactic(auto)]
 
 ghost use Rattle.std.specs.Prelude.{◌≡◌};
-ghost use Rattle.c_numbers.specs.Numbers.{told, alone, Small};
+ghost use Rattle.c_numbers.specs.declared.numbers.Told.{Told};
+ghost use Rattle.c_numbers.specs.Numbers.{alone, Small};
 ghost use Rattle.c_told.specs.Told.{told_by, outcome_of};
 
-use sched_job::Ending;
+use c_numbers::numbers::Told;
+use das_answer::Answer;
 
-// The number of a step's answer, and the four numbers beside it written.
-pub fn tell(e: Ending, changed: &mut u32, size: &mut u32, skew: &mut i64, stamped: &mut u32) -> u32
-    requires { Small (told_by (outcome_of e) (alone 0)) }
-    ensures { told result changed.new size.new skew.new stamped.new ≡ told_by (outcome_of e) (told 0 changed.old size.old skew.old stamped.old) }
+// The number of a step's ending, 600 where it goes on, and the four numbers beside it, whatever they were.
+#[tactic(auto, unfolding(crate::specs::Told::told_by))]
+pub fn tell(ending: Option<Answer>) -> Told
+    requires { Small (told_by (outcome_of ending) (alone 0)) }
+    ensures { (old : Told) → result ≡ told_by (outcome_of ending) old }
 {
-    *changed = 0;
-    *size = 0;
-    *skew = 0;
-    *stamped = 0;
-    match e {
-        Ending::Going => 600,
-        Ending::Done(a) => c_numbers::numbers::tell(a, changed, size, skew, stamped),
+    match ending {
+        None => Told::alone(600),
+        Some(a) => c_numbers::numbers::tell(a, Told::alone(0)),
     }
 }

@@ -67,6 +67,9 @@ module _ (p s : List ℕ) (c : Option Cause) (area : s ≡ area_of p) where
       unfolding reply_length packet_length
       end_is = he ∙ rw (hb, body_is, room_is)
 
+      pub end_low : reply_length p c ≤ 4096 → e ≤ 4096
+      end_low h = rw end_is h
+
       -- l is the buffer before the calls
       pub replied : (n : ℕ) → Sized p n → (secret auth l t₁ t₂ t₃ t₄ : List ℕ) → auth ≡ auth_of p → reply_length p c ≤ 4096 → 4096 ≤ length l
           → t₁ ≡ write l 20 (state_part s ++ cause_part c ++ proxy_part s) → t₂ ≡ write t₁ b (mac_room present) → t₃ ≡ write t₂ 0 (head_of p c ++ auth_of p)
@@ -81,4 +84,4 @@ module _ (p s : List ℕ) (c : Option Cause) (area : s ≡ area_of p) where
           sealed secret (auth_of p) (head_of p c) (body_of p c) l (maced p) (length_head p c) sixteen (omega arith)
           present t₃ (with_mac present (auth_of p) t₃ e secret) t₄ present_is w₃ (rw end_is) (e₄ ∙ rw (ea, end_is))
 
-pub ruleset replying = (code_low, body_fits, room_fits, end_is, replied)
+pub ruleset replying = (code_low, body_fits, room_fits, end_is)

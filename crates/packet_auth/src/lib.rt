@@ -9,8 +9,8 @@ ghost use Rattle.packet_auth.specs.Signing.{zeros, authenticator};
 use packet_form::Packet;
 
 // What comes before the attributes, with auth in the authenticator's place, at the start of a block.
-pub fn front(buf: &mut [u8], p: &[u8], auth: &[u8; 16])
-    requires { (length buf.old ≡ 64) × (20 ≤ length p.now) }
+pub fn front(buf: &mut [u8; 64], p: &[u8], auth: &[u8; 16])
+    requires { 20 ≤ length p.now }
     ensures { buf.new ≡ write buf.old 0 (take 4 p.now ++ auth.now) }
 {
     octet_copies::copy(&mut *buf, 0, &p[..4]);
@@ -29,7 +29,8 @@ pub fn authenticator(p: &[u8], n: usize, auth: &[u8; 16], secret: &[u8]) -> [u8;
     md5_digest::finish(&mut buf, q, n + secret.len())
 }
 
-// The authenticator of a request.
+// The authenticator of a request: zeros stand for it.
+#[tactic(auto, unfolding(crate::specs::Signing::zeros))]
 pub fn request_authenticator(p: &[u8], n: usize, secret: &[u8]) -> [u8; 16]
     requires { (20 ≤ n) × (n ≤ length p.now) }
     ensures { result ≡ authenticator zeros p.now n secret.now }

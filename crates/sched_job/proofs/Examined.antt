@@ -29,12 +29,3 @@ slot_below t k h = let c = counted t in omega arith
 pub match_law : (q s t : List ℕ) (k : ℕ) (cs : List Criterion) (noted : List Noted) (r : Bool) → s ≡ area_of q → cs ≡ taken_criteria noted → r ≡ matches_at s cs t k
     → Kept s noted → found (first_repeated none (attributes (area_of q))) ≡ false → r ≡ matches_in (area_of q) t k
 match_law q s t k cs noted r area kept e i once = e ∙ rw (area, kept) (kept_match (area_of q) (slot k t) noted (kept_of s (area_of q) area noted i) once)
-
-module _ (j : Job) (q t : List ℕ) (k : ℕ) (b : Bool) (is : b ≡ matches_in (area_of q) t k) where
-  pub match-marks : b ≡ true → record { stage = Match (k + 1); words = j.words; marks = set j.marks k 1; length = j.length; clock = j.clock } ≡ match_job j k q t
-  unfolding match_job
-  match-marks h = rw (← is, h)
-
-  pub match-leaves : b ≡ false → record { stage = Match (k + 1); words = j.words; marks = j.marks; length = j.length; clock = j.clock } ≡ match_job j k q t
-  unfolding match_job
-  match-leaves h = rw (← is, h)

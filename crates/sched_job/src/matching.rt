@@ -20,6 +20,7 @@ fn matches(request: &Request, t: &[u8], k: usize) -> bool
 
 impl Job {
     // Match: slot k, by the request that the store still shows.
+    #[tactic(auto, unfolding(crate::specs::Moves::match_job))]
     pub fn match_slot(self, k: usize, request: &Request, t: &[u8]) -> Job
         requires k_bound { k < slot_count t.now }
         requires once { found (first_repeated none (attributes (area_of request.now.packet.bytes.now))) ≡ false }

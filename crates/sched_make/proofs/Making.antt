@@ -1,12 +1,13 @@
 -- Making: R2 and R3 in their order, which leave all as it was; else four free jobs, and secret and name over zeros.
 -- Assumes nothing.
 use mathlib.Core.Path.{◌≡◌}
-use mathlib.Core.Bool.{Bool, true, false}
+use mathlib.Core.Bool.{Bool, false}
 use mathlib.Core.List.{List}
 use Prim.Native.Nat.{ℕ, ◌≤◌}
 use lib.ListN.{length, replicate, length-replicate}
 use Rattle.octet_numbers.specs.Runs.{write}
 use Rattle.octet_numbers.proofs.Write.{write_whole}
+use Rattle.std.specs.Prelude.{None}
 use Rattle.nas_settings.specs.Settings.{settings, bad_secret, bad_nas_id}
 use Rattle.sched_job.specs.Job.{free_job}
 use Rattle.sched_state.specs.Refusals.{make_refusal}
@@ -25,32 +26,16 @@ name_room nas_id room b is h long = rw long (name_fits nas_id b is h)
 pub over_zeros : (l l₁ l₂ s : List ℕ) → l₁ ≡ write l 0 (replicate (length l) 0) → l₂ ≡ write l₁ 0 s → l₂ ≡ write (replicate (length l) 0) 0 s
 over_zeros l l₁ l₂ s e₁ e₂ = rw (e₂, e₁, write_whole l (replicate (length l) 0) (length-replicate {A = ℕ} (length l) 0))
 
-module _ (secret nas_id : List ℕ) (ip : ℕ) (a : Bool) (is-a : a ≡ bad_secret secret) where
-  pub secret_number : a ≡ true → 2 ≡ make_refusal (settings secret ip nas_id)
-  unfolding make_refusal
-  secret_number h = rw (← is-a, h)
+pub not_refused : (secret nas_id : List ℕ) (ip : ℕ) (a b : Bool) → a ≡ bad_secret secret → a ≡ false → b ≡ bad_nas_id nas_id → b ≡ false
+    → make_refusal (settings secret ip nas_id) ≡ None
+unfolding make_refusal
+not_refused secret nas_id ip a b is-a good is_b fits = rw (← is-a, good, ← is_b, fits)
 
-  pub secret_left : a ≡ true → (h : Held) → h ≡ make_left (settings secret ip nas_id) h
-  unfolding make_left make_refusal
-  secret_left t h = rw (← is-a, t)
-
-  module _ (good : a ≡ false) (b : Bool) (is_b : b ≡ bad_nas_id nas_id) where
-    pub name_number : b ≡ true → 3 ≡ make_refusal (settings secret ip nas_id)
-    unfolding make_refusal
-    name_number h = rw (← is-a, good, ← is_b, h)
-
-    pub name_left : b ≡ true → (h : Held) → h ≡ make_left (settings secret ip nas_id) h
-    unfolding make_left make_refusal
-    name_left t h = rw (← is-a, good, ← is_b, t)
-
-    pub made_number : b ≡ false → 0 ≡ make_refusal (settings secret ip nas_id)
-    unfolding make_refusal
-    made_number h = rw (← is-a, good, ← is_b, h)
-
-    pub made_left : b ≡ false → (ws ks ps ms : List (List ℕ)) (kept own : List ℕ) (n₁ n₂ : ℕ) (h : Held)
-        → ws ≡ replicate 4 free_job.words → ks ≡ replicate 4 (kind_row free_job) → ps ≡ replicate 4 (place_row free_job)
-        → ms ≡ replicate 4 free_job.marks
-        → kept ≡ write (replicate n₁ 0) 0 secret → n₁ ≡ 64 → own ≡ write (replicate n₂ 0) 0 nas_id → n₂ ≡ 32
-        → held ws ks ps ms kept (length secret) ip own (length nas_id) ≡ make_left (settings secret ip nas_id) h
-    unfolding make_left make_refusal held_of made_of
-    made_left t ws ks ps ms kept own n₁ n₂ h ew ek ep em es l₁ en l₂ = rw (← is-a, good, ← is_b, t, ew, ek, ep, em, es, l₁, en, l₂)
+pub made_left : (secret nas_id : List ℕ) (ip : ℕ) → make_refusal (settings secret ip nas_id) ≡ None
+    → (ws ks ps ms : List (List ℕ)) (kept own : List ℕ) (n₁ n₂ : ℕ) (h : Held)
+    → ws ≡ replicate 4 free_job.words → ks ≡ replicate 4 (kind_row free_job) → ps ≡ replicate 4 (place_row free_job)
+    → ms ≡ replicate 4 free_job.marks
+    → kept ≡ write (replicate n₁ 0) 0 secret → n₁ ≡ 64 → own ≡ write (replicate n₂ 0) 0 nas_id → n₂ ≡ 32
+    → held ws ks ps ms kept (length secret) ip own (length nas_id) ≡ make_left (settings secret ip nas_id) h
+unfolding make_left held_of made_of
+made_left secret nas_id ip t ws ks ps ms kept own n₁ n₂ h ew ek ep em es l₁ en l₂ = rw (t, ew, ek, ep, em, es, l₁, en, l₂)

@@ -1,15 +1,17 @@
 // Making a scheduler: no request in work, and what it is made with copied.
 #![tactic(auto)]
 
-ghost use Rattle.std.specs.Prelude.{◌≡◌, ◌≤◌, length, replicate};
+ghost use Rattle.std.specs.Prelude.{◌≡◌, ◌≤◌, length, replicate, Some, None, MatchResult};
 ghost use Rattle.octet_numbers.specs.Runs.{write};
-ghost use Rattle.nas_settings.specs.Settings.{settings};
+ghost use Rattle.nas_settings.specs.Settings.{gate_settings};
 ghost use Rattle.sched_job.specs.Job.{free_job};
 ghost use Rattle.sched_state.specs.Refusals.{make_refusal};
 ghost use Rattle.sched_rows.specs.Layout.{held, kind_row, place_row};
 ghost use Rattle.sched_rows.specs.Left.{make_left};
 ghost use Rattle.sched_rows.specs.Lent.{SameRows};
 
+use nas_settings::Gate;
+use refusals::Refusal;
 use sched_rows::Rows;
 
 // The rows of four free jobs.
@@ -37,6 +39,7 @@ fn keep(room: &mut [u8], s: &[u8])
 }
 
 // R2, R3, or a scheduler. What is fixed then is written to the five places that C lends.
+#[tactic(auto, unfolding(sched_state::specs::Refusals::make_refusal, sched_rows::specs::Left::make_left))]
 pub fn make(
     rows: &mut Rows<'_>,
     kept: &mut [u8; 64],
@@ -44,25 +47,23 @@ pub fn make(
     nas_ip: &mut u32,
     own: &mut [u8; 32],
     label: &mut usize,
-    secret: &[u8],
-    ip: u32,
-    nas_id: &[u8],
-) -> u32
+    gate: &Gate,
+) -> Result<(), Refusal>
     ensures same { SameRows rows.old rows.new }
-    ensures value { result ≡ make_refusal (settings secret.now ip nas_id.now) }
-    ensures label_after { held rows.new.words.now rows.new.kinds.now rows.new.places.now rows.new.marks.now kept.new size.new nas_ip.new own.new label.new ≡ make_left (settings secret.now ip nas_id.now) (held rows.old.words.now rows.old.kinds.now rows.old.places.now rows.old.marks.now kept.old size.old nas_ip.old own.old label.old) }
+    ensures value { MatchResult result (λ done. make_refusal (gate_settings gate.now) ≡ None) (λ r. make_refusal (gate_settings gate.now) ≡ Some r) }
+    ensures label_after { held rows.new.words.now rows.new.kinds.now rows.new.places.now rows.new.marks.now kept.new size.new nas_ip.new own.new label.new ≡ make_left (gate_settings gate.now) (held rows.old.words.now rows.old.kinds.now rows.old.places.now rows.old.marks.now kept.old size.old nas_ip.old own.old label.old) }
 {
-    if nas_settings::bad_secret(secret) {
-        return 2;
+    if nas_settings::bad_secret(gate.secret) {
+        return Err(Refusal::SecretLength);
     }
-    if nas_settings::bad_nas_id(nas_id) {
-        return 3;
+    if nas_settings::bad_nas_id(gate.nas_id) {
+        return Err(Refusal::NasIdentifierLength);
     }
     free_all(rows);
-    keep(kept, secret);
-    keep(own, nas_id);
-    *size = secret.len();
-    *nas_ip = ip;
-    *label = nas_id.len();
-    0
+    keep(kept, gate.secret);
+    keep(own, gate.nas_id);
+    *size = gate.secret.len();
+    *nas_ip = gate.nas_ip;
+    *label = gate.nas_id.len();
+    Ok(())
 }

@@ -6,11 +6,14 @@ use Prim.Native.Nat.{ℕ, ◌≤◌, ◌<◌}
 use native.Mathlib.Omega.{arith}
 use borrow.Author.Tests.{eq-eqb, ne_eqb, ltb-true, ltb-false}
 use lib.Dec.{ltb}
-use Rattle.std.specs.Prelude.{Option, Some, None}
+use Rattle.std.specs.Prelude.{Option, Some, None, Result, MatchResult}
+use Rattle.std.specs.Option.{ok_or}
+use Rattle.refusals.specs.declared.Refusal.{Refusal}
+use Rattle.refusals.specs.declared.Refusal.TheVariants as R
 use Rattle.sched_state.specs.Scheduler.{lowest_free}
 use Rattle.sched_state.specs.Refusals.{open_refusal}
 use Rattle.sched_rows.specs.Lent.{below_four}
-use Rattle.sched_open.specs.Chosen.{Given, Not}
+use Rattle.sched_open.specs.Chosen.{Given}
 
 some_below : (b : Bool) (n j : ℕ) → ltb n 4 ≡ b → Some j ≡ cond b (Some n) None → (j ≡ n) × (j < 4)
 some_below true n j e h = let is : j ≡ n = cc in let low = ltb-true n 4 e in (is, rw is low)
@@ -32,16 +35,16 @@ unfolding lowest_free
 most f = most_of (f 0) (f 1) (f 2) (f 3)
 
 module _ (f : ℕ → Bool) (size : ℕ) where
-  pub short : (size ≡ 16384 → ⊥) → Not f size 5
+  pub short : (size ≡ 16384 → ⊥) → open_refusal f size ≡ Some R.StoreLength
   unfolding open_refusal
-  short odd = record { number = rw (ne_eqb _ _ odd); some = omega arith }
+  short odd = rw (ne_eqb _ _ odd)
 
   module _ (long : size ≡ 16384) where
-    pub full : None ≡ below_four (lowest_free f) → Not f size 6
+    pub full : None ≡ below_four (lowest_free f) → open_refusal f size ≡ Some R.NoFreeJob
     unfolding open_refusal
     full e =
         let four = none_above (ltb (lowest_free f) 4) (lowest_free f) (most f) refl e in
-        record { number = rw (eq-eqb _ _ long, eq-eqb _ _ four); some = omega arith }
+        rw (eq-eqb _ _ long, eq-eqb _ _ four)
 
     pub free : (j : ℕ) → Some j ≡ below_four (lowest_free f) → Given f size j
     unfolding open_refusal
@@ -49,3 +52,8 @@ module _ (f : ℕ → Bool) (size : ℕ) where
         let is = some_below (ltb (lowest_free f) 4) (lowest_free f) j refl e in
         let not_four : lowest_free f ≡ 4 → ⊥ = λ h. omega (arith, is.0, is.1) in
         record { none = rw (eq-eqb _ _ long, ne_eqb _ _ not_four); long = long; lowest = is.0; below = is.1 }
+
+    pub free_or_full : (x : Option ℕ) (r : Result ℕ Refusal) → r ≡ ok_or x R.NoFreeJob → x ≡ below_four (lowest_free f)
+        → MatchResult r (λ j. Given f size j) (λ n. open_refusal f size ≡ Some n)
+    free_or_full None r e h = rw e (full h)
+    free_or_full (Some j) r e h = rw e (free j h)

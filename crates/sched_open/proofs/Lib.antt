@@ -1,4 +1,3 @@
-mod NewJob
 mod Choosing
 mod Admitting
 mod Dropping

@@ -21,12 +21,15 @@ pub use shown::Shown;
 
 // The packet that the store shows, where none of D1 to D3 applies and Length is the kept one.
 pub fn held(n: usize, q: &[u8]) -> Option<Packet<'_>>
-    ensures { MatchOption result (λ packet. (packet.bytes.now ≡ q.now) × (form_of q.now ≡ None) × (holds n q.now ≡ true)) (holds n q.now ≡ false) }
+    ensures { MatchOption result (holds n q.now ≡ false) (λ packet. (packet.bytes.now ≡ q.now) × (form_of q.now ≡ None) × (holds n q.now ≡ true)) }
 {
-    match packet_form::form(q) {
-        Ok(packet) if packet.length == n => Some(packet),
-        _ => None,
+    let Ok(packet) = packet_form::form(q) else {
+        return None;
+    };
+    if packet.length == n {
+        return Some(packet);
     }
+    None
 }
 
 // The first type 80, if any, has length 18.
@@ -52,7 +55,7 @@ fn unobjected(survey: &Survey, gate: &Gate) -> bool
 
 // The store read again for Match and Commit.
 pub fn passed<'a>(n: usize, q: &'a [u8], gate: &Gate) -> Option<Shown<'a>>
-    ensures { MatchOption result (λ x. (x.request.packet.bytes.now ≡ q.now) × (holds_passed (gate_settings gate.now) n q.now ≡ true)) (holds_passed (gate_settings gate.now) n q.now ≡ false) }
+    ensures { MatchOption result (holds_passed (gate_settings gate.now) n q.now ≡ false) (λ x. (x.request.packet.bytes.now ≡ q.now) × (holds_passed (gate_settings gate.now) n q.now ≡ true)) }
 {
     let packet = held(n, q)?;
     let request = Request::of(packet);

@@ -1,10 +1,12 @@
 // A job from its rows, whatever they are: one that is none of ours is free.
-ghost use Rattle.std.specs.Prelude.{◌≡◌, ◌≤◌, ◌<◌, length, take};
+ghost use Rattle.std.specs.Prelude.{◌≡◌, ◌≤◌, ◌<◌, length};
+ghost use Rattle.nas_settings.specs.Settings.{gate_settings};
 ghost use Rattle.sched_state.specs.Scheduler.{job_at, open_at, lowest_free};
 ghost use Rattle.sched_rows.specs.Layout.{secret_in, nas_id_in, block_in, stage_in};
-ghost use Rattle.sched_rows.specs.Lent.{jobs_of, below_four};
+ghost use Rattle.sched_rows.specs.Lent.{jobs_of, settings_in, below_four};
 
 use crate::{Made, Rows};
+use nas_settings::Gate;
 
 // The length of the secret, and that of the NAS-Identifier.
 pub fn secret_in(n: usize) -> usize
@@ -54,21 +56,18 @@ fn stage_in(size: usize, kind: u32, place: usize, n: usize) -> sched_job::Stage
 }
 
 impl Made<'_> {
-    // The bytes of the secret that count.
-    pub fn secret_bytes(&self) -> &[u8]
-        ensures value { result.now ≡ take (secret_in self.now.secret_size) self.now.secret.now }
-        ensures size { (length result.now ≡ secret_in self.now.secret_size) × (length result.now ≤ 64) }
+    // What the scheduler was made with: of secret and NAS-Identifier the bytes that count.
+    pub fn gate(&self) -> Gate<'_>
+        ensures value { gate_settings result ≡ settings_in self.now }
+        ensures size { (length result.secret.now ≡ secret_in self.now.secret_size) × (length result.secret.now ≤ 64) }
     {
         let secret = self.secret;
-        &secret[..secret_in(self.secret_size)]
-    }
-
-    // The bytes of the NAS-Identifier that count.
-    pub fn nas_id_bytes(&self) -> &[u8]
-        ensures { result.now ≡ take (nas_id_in self.now.nas_id_size) self.now.nas_id.now }
-    {
         let nas_id = self.nas_id;
-        &nas_id[..nas_id_in(self.nas_id_size)]
+        Gate {
+            secret: &secret[..secret_in(self.secret_size)],
+            nas_ip: self.nas_ip,
+            nas_id: &nas_id[..nas_id_in(self.nas_id_size)],
+        }
     }
 }
 

@@ -3,7 +3,6 @@
 #![tactic(auto)]
 
 ghost use Rattle.std.specs.Prelude.{◌≡◌};
-ghost use Rattle.table_records.specs.Record.{session_of};
 ghost use Rattle.table_sessions.specs.Session.{insert_table, remove_table};
 ghost use Rattle.sched_state.specs.Calls.{start_called, end_called};
 ghost use Rattle.sched_rows.specs.Layout.{scheduler_in};
@@ -12,6 +11,7 @@ ghost use Rattle.sched_rows.specs.Lent.{held_with};
 ghost use Rattle.c_told.specs.Told.{number_by, place_by};
 
 use sched_rows::Made;
+use table_records::Session;
 
 // R1, R8, R9, R10, or a session in the lowest free slot.
 pub fn start(
@@ -21,28 +21,21 @@ pub fn start(
     marks: &mut [[u8; 64]; 4],
     made: &Made<'_>,
     t: &mut [u8],
-    port: u32,
-    framed: u32,
-    timeout: u32,
-    idle: u32,
-    user: &[u8],
-    id: &[u8],
-    station: &[u8],
-    filter: &[u8],
+    session: &Session,
     slot: &mut u32,
 ) -> u32
-    ensures value { result ≡ number_by (start_called (scheduler_in (held_with words.now kinds.now places.old marks.old made.now)) (session_of port framed timeout idle user.now id.now station.now filter.now) t.old).outcome }
-    ensures marks_after { held_with words.now kinds.now places.new marks.new made.now ≡ start_left (held_with words.now kinds.now places.old marks.old made.now) (session_of port framed timeout idle user.now id.now station.now filter.now) t.old }
-    ensures t_after { t.new ≡ insert_table (session_of port framed timeout idle user.now id.now station.now filter.now) t.old }
-    ensures slot_after { slot.new ≡ place_by (start_called (scheduler_in (held_with words.now kinds.now places.old marks.old made.now)) (session_of port framed timeout idle user.now id.now station.now filter.now) t.old).outcome slot.old }
+    ensures value { result ≡ number_by (start_called (scheduler_in (held_with words.now kinds.now places.old marks.old made.now)) session.now t.old).outcome }
+    ensures marks_after { held_with words.now kinds.now places.new marks.new made.now ≡ start_left (held_with words.now kinds.now places.old marks.old made.now) session.now t.old }
+    ensures t_after { t.new ≡ insert_table session.now t.old }
+    ensures slot_after { slot.new ≡ place_by (start_called (scheduler_in (held_with words.now kinds.now places.old marks.old made.now)) session.now t.old).outcome slot.old }
 {
-    match table_sessions::insert(t, port, framed, timeout, idle, user, id, station, filter) {
-        table_sessions::Inserted::Slot(k) => {
+    match table_sessions::insert(t, session) {
+        Ok(k) => {
             sched_rows::writing::restart_all(kinds, places, marks); // a start restarts
             *slot = k as u32;
             0 // started
         }
-        table_sessions::Inserted::NotInserted(n) => n as u32, // a refused start restarts nobody
+        Err(r) => u32::from(r), // a refused start restarts nobody
     }
 }
 
@@ -61,10 +54,10 @@ pub fn end(
     ensures t_after { t.new ≡ remove_table k t.old }
 {
     match table_sessions::remove(t, k) {
-        table_sessions::Removed::Gone => {
+        Ok(()) => {
             sched_rows::writing::restart_all(kinds, places, marks); // an end restarts
             0 // ended
         }
-        table_sessions::Removed::NotRemoved(n) => n as u32,
+        Err(r) => u32::from(r),
     }
 }

@@ -1,7 +1,7 @@
 -- For inner contracts: a job read from its rows and moved, and its rows after that.
 -- Assumes nothing.
 use Rattle.std.specs.Prelude.{Bool, false, cond, List, ℕ, length, set, Option, Some, None}
-use Rattle.nas_settings.specs.Settings.{settings}
+use Rattle.nas_settings.specs.Settings.{Settings}
 use Rattle.das_answer.specs.declared.Answer.{Answer}
 use Rattle.sched_job.specs.declared.Moved as M
 use Rattle.sched_job.specs.Moves.{moved}
@@ -12,12 +12,12 @@ use Rattle.sched_rows.specs.Layout.{kind_row, place_row, jobs_in}
 use Rattle.sched_rows.specs.Left.{restart_places, restart_marks}
 
 -- job j of these rows, moved by its part q of the store and the table t
-abbrev pub rows_moved : List ℕ → ℕ → List ℕ → List (List ℕ) → List (List ℕ) → List (List ℕ) → List (List ℕ) → ℕ → List ℕ → List ℕ → M.Moved
-rows_moved secret nas_ip nas_id ws ks ps ms j q t = moved (settings secret nas_ip nas_id) (job_at (jobs_in (length secret) ws ks ps ms) j) q t
+abbrev pub rows_moved : Settings → List (List ℕ) → List (List ℕ) → List (List ℕ) → List (List ℕ) → ℕ → List ℕ → List ℕ → M.Moved
+rows_moved g ws ks ps ms j q t = moved g (job_at (jobs_in (length g.secret) ws ks ps ms) j) q t
 
 -- the same of rows as they are lent
-abbrev pub moved_in : List ℕ → ℕ → List ℕ → Rows → ℕ → List ℕ → List ℕ → M.Moved
-moved_in secret nas_ip nas_id r j q t = rows_moved secret nas_ip nas_id r.words.now r.kinds.now r.places.now r.marks.now j q t
+abbrev pub moved_in : Settings → Rows → ℕ → List ℕ → List ℕ → M.Moved
+moved_in g r j q t = rows_moved g r.words.now r.kinds.now r.places.now r.marks.now j q t
 
 -- whether a step ended in ACK
 abbrev pub ack_by : Option Answer → Bool

@@ -41,7 +41,8 @@ module _ (s : D.Scheduler) (t store : List ℕ) (ns : List Note) (h : Tied (reco
 
   -- an ACK sends the others back
   pub after_ack : (f : Bool) (j : ℕ) (u : List ℕ) → open_at s.jobs j ≡ true → (f ≡ false → u ≡ t)
-      → Tied (record { scheduler = cond f (restart_all (with_job s j free_job)) (with_job s j free_job); table = u; store = store }) (set ns j unnoted)
+      → Tied (record { scheduler = cond f (restart_all (with_job s j free_job)) (with_job s j free_job); table = u; store = store })
+      (set ns j unnoted)
   after_ack true j u o e =
       record {
         made = h.made;
@@ -54,4 +55,5 @@ module _ (s : D.Scheduler) (t store : List ℕ) (ns : List Note) (h : Tied (reco
 
   -- a start and an end send all back
   pub restart-tied : (u : List ℕ) → Tied (record { scheduler = restart_all s; table = u; store = store }) ns
-  restart-tied u = record { made = h.made; count = simp length-map h.count; notes = h.notes; each = all-restarted (settings_of s) s.jobs ns store t u h.each }
+  restart-tied u =
+      record { made = h.made; count = simp length-map h.count; notes = h.notes; each = all-restarted (settings_of s) s.jobs ns store t u h.each }

@@ -5,24 +5,24 @@
 use mathlib.Core.Path.{◌≡◌, refl}
 use mathlib.Core.Bool.{Bool, true, false, cond, false≢true}
 use mathlib.Core.List.{List, map}
-use Prim.Native.Nat.{ℕ, suc, ◌+◌, ◌*◌, ◌-◌, ◌≤◌, ◌<◌}
+use Prim.Native.Nat.{ℕ, suc, ◌+◌, ◌*◌, ◌≤◌, ◌<◌}
 use native.Mathlib.Omega.{arith}
 use borrow.Author.Tests.{ltb-true}
 use lib.Dec.{ltb}
 use lib.ListN.{length, set}
+use lib.IntN.{ℤ}
+use Rattle.std.specs.Prelude.{Option, Some, None, Result, Ok, Err}
+use Rattle.refusals.specs.declared.Discard.TheVariants as R
 use Rattle.packet_blocks.specs.Block.{block_count}
 use Rattle.table_slots.specs.Slot.{slot_count}
 use Rattle.table_slots.proofs.Count.{counted}
 use Rattle.nas_settings.specs.Settings.{Settings}
+use Rattle.das_answer.specs.declared.Answer.{Answer}
 use Rattle.das_answer.specs.declared.Answer.TheVariants as A
-use Rattle.das_judge.specs.declared.Judged.{Judged}
-use Rattle.das_judge.specs.declared.Judged.TheVariants as G
 use Rattle.sched_reread.specs.Check.{store_judged}
 use Rattle.sched_job.specs.declared.Job as B
 use Rattle.sched_job.specs.declared.Stage as S
 use Rattle.sched_job.specs.declared.Stage.TheVariants.{Free, Hash, Check, Match}
-use Rattle.sched_job.specs.declared.Ending as E
-use Rattle.sched_job.specs.declared.Ending.TheVariants as K
 use Rattle.sched_job.specs.declared.Moved as M
 use Rattle.sched_job.specs.Job.{free_job, is_open, restarted}
 use Rattle.sched_reread.specs.Reread.{holds_passed}
@@ -37,9 +37,9 @@ use Rattle.thm_serial.proofs.Potential.{left, opens, total, pairs, potential, to
 
 -- ---- a job that goes on
 
-abbrev pub LessBy : S.Stage → B.Job → E.Ending → Type 0
-LessBy x j K.Going = left j.stage < left x
-LessBy x j (K.Done a) = Unit {0}
+abbrev pub LessBy : S.Stage → B.Job → Option Answer → Type 0
+LessBy x j None = left j.stage < left x
+LessBy x j (Some a) = Unit {0}
 
 abbrev pub Less : S.Stage → M.Moved → Type 0
 Less x m = LessBy x m.job m.ending
@@ -48,18 +48,19 @@ hash_less : (f : Bool) (k n : ℕ) → ltb (k + 1) n ≡ f → n ≤ 66 → left
 hash_less true k n e h = omega (arith, ltb-true (k + 1) n e)
 hash_less false k n e h = omega arith
 
-checked_less : (x : Judged) (j : B.Job) → Less Check (checked_as j x)
-checked_less (G.Ended a) j = tt
-checked_less (G.Passed k) j = omega arith
+checked_less : (x : Result ℤ Answer) (j : B.Job) → Less Check (checked_as j x)
+checked_less (Err a) j = tt
+checked_less (Ok k) j = omega arith
 
 slot_less : (f e : Bool) (k n : ℕ) (j : B.Job) (q t : List ℕ) → ltb k n ≡ e → n ≤ 64
-    → Less (Match k) (cond f (cond e (going (match_job j k q t)) (commit_move j q t)) (done (A.Discarded 1)))
+    → Less (Match k) (cond f (cond e (going (match_job j k q t)) (commit_move j q t)) (done (A.Discarded R.Length)))
 unfolding match_job commit_move
 slot_less true true k n j q t i h = omega (arith, ltb-true k n i)
 slot_less true false k n j q t i h = tt
 slot_less false e k n j q t i h = tt
 
-pub moved_less : (g : Settings) (x : S.Stage) (j : B.Job) (q t : List ℕ) → block_count (j.length + length g.secret) ≤ 66 → is_open x ≡ true → Less x (moved_at g x j q t)
+pub moved_less : (g : Settings) (x : S.Stage) (j : B.Job) (q t : List ℕ) → block_count (j.length + length g.secret) ≤ 66 → is_open x ≡ true
+    → Less x (moved_at g x j q t)
 unfolding hash_job check_move slot_move
 moved_less g Free j q t h o = absurd (false≢true o)
 moved_less g (Hash k) j q t h o = hash_less _ k (block_count (j.length + length g.secret)) refl h
@@ -94,7 +95,8 @@ module _ (s : D.Scheduler) (j : ℕ) (stands_open : open_at s.jobs j ≡ true) w
       (go f (omega (arith, total_set left s.jobs j free_job here, open_left_lem (job_at s.jobs j).stage job_open)))
     where
       go : (f : Bool) → total left rest < total left s.jobs
-          → total left (cond f (map restarted rest) rest) + 64 * pairs (total opens (cond f (map restarted rest) rest)) < total left s.jobs + 64 * (total opens rest + pairs (total opens rest))
+          → total left (cond f (map restarted rest) rest) + 64 * pairs (total opens (cond f (map restarted rest) rest))
+          < total left s.jobs + 64 * (total opens rest + pairs (total opens rest))
       go true z = rw (opens_restarted rest) (omega (arith, total_restarted rest))
       go false z = omega arith
 
@@ -102,7 +104,8 @@ module _ (s : D.Scheduler) (j : ℕ) (stands_open : open_at s.jobs j ≡ true) w
   ack_less true x e = rw e (back_less true)
   ack_less false x e = rw e (back_less false)
 
-  pub put_less : (g : Settings) (p : List ℕ) (clock : ℕ) (q t b u : List ℕ) (x : B.Job) (e : E.Ending) → Ended g p clock q t b x u e → LessBy (job_at s.jobs j).stage x e
+  pub put_less : (g : Settings) (p : List ℕ) (clock : ℕ) (q t b u : List ℕ) (x : B.Job) (e : Option Answer) → Ended g p clock q t b x u e
+      → LessBy (job_at s.jobs j).stage x e
       → potential (stepped_as s j (record { job = x; ending = e }) e).scheduler.jobs < potential s.jobs
-  put_less g p clock q t b u x K.Going k h = going_less x (job_flag g x (noted p clock) q t k.holding) h
-  put_less g p clock q t b u x (K.Done a) k h = ack_less (is_ack a) x k.freed
+  put_less g p clock q t b u x None k h = going_less x (job_flag g x (noted p clock) q t k.holding) h
+  put_less g p clock q t b u x (Some a) k h = ack_less (is_ack a) x k.freed

@@ -9,6 +9,7 @@ use native.Mathlib.Numerals.{add-one}
 use native.Mathlib.Omega.{arith}
 use borrow.Author.Tests.{ltb-true, ltb-false}
 use lib.Dec.{ltb}
+use Rattle.std.specs.Prelude.{Some, None}
 use Rattle.octet_numbers.specs.Runs.{equal_bytes}
 use Rattle.md5_ops.specs.Md5.{output}
 use Rattle.packet_auth.specs.Signing.{zeros, authenticator}
@@ -38,7 +39,8 @@ use Rattle.thm_serial.proofs.SameAnswers.{check_same, length_same}
 use Rattle.thm_serial.proofs.PassedCheck.{same_holds, passing}
 use Rattle.thm_serial.proofs.JobInvariant.{blocks_of, words_at, Place, Right, ends_with, handled_as}
 
-module _ (g : Settings) (p : List ℕ) (clock : ℕ) (q t b : List ℕ) (open-to : refusal_of g t b ≡ 0) (good : form_of p ≡ 0) (same : SamePacket p q) where
+module _ (g : Settings) (p : List ℕ) (clock : ℕ) (q t b : List ℕ) (open-to : refusal_of g t b ≡ None) (good : form_of p ≡ None)
+    (same : SamePacket p q) where
   -- ---- Hash
 
   next_words : (k : ℕ) (w : List ℕ) → w ≡ words_at g p k → words_of (hashed (hash_state w) k q (length_of p) g.secret) ≡ words_at g p (suc k)
@@ -82,17 +84,27 @@ module _ (g : Settings) (p : List ℕ) (clock : ℕ) (q t b : List ℕ) (open-to
   checked_right : (v : R.Verdict) (j : B.Job) → j.length ≡ length_of p → j.clock ≡ clock → check_verdict g (signed_by g.secret p) p clock ≡ v
       → Right g p clock q t b (checked_as j (judged_as q v)) t
   unfolding marks_after
-  checked_right (J.Discarded d) j l c e = ends_with g p clock q t b (A.Discarded d) t same (handled_as g p clock q t b open-to good (J.Discarded d) e) refl
-  checked_right (J.Stale skew) j l c e = ends_with g p clock q t b (A.Stale skew) t same (handled_as g p clock q t b open-to good (J.Stale skew) e) refl
+  checked_right (J.Discarded d) j l c e =
+      ends_with g p clock q t b (A.Discarded d) t same (handled_as g p clock q t b open-to good (J.Discarded d) e) refl
+  checked_right (J.Stale skew) j l c e =
+      ends_with g p clock q t b (A.Stale skew) t same (handled_as g p clock q t b open-to good (J.Stale skew) e) refl
   checked_right (J.Nak x skew) j l c e =
-      ends_with g p clock q t b (A.Nak x skew (reply_length q x)) t same (handled_as g p clock q t b open-to good (J.Nak x skew) e ∙ rw (length_same p q same x)) refl
+      ends_with g p clock q t b (A.Nak x skew (reply_length q (Some x))) t same
+      (handled_as g p clock q t b open-to good (J.Nak x skew) e ∙ rw (length_same p q same (Some x))) refl
   checked_right (J.Passed skew) j l c e =
       record {
-        holding = record { long = l; clock_is = c; same = same; good = good; place = (passing g p clock skew (signed_by g.secret p) e, omega arith, refl) };
+        holding = record {
+          long = l;
+          clock_is = c;
+          same = same;
+          good = good;
+          place = (passing g p clock skew (signed_by g.secret p) e, omega arith, refl);
+        };
         kept = refl;
       }
 
-  pub check_right : (j : B.Job) → j.length ≡ length_of p → j.clock ≡ clock → j.words ≡ words_at g p (blocks_of g p) → Right g p clock q t b (check_move g j q) t
+  pub check_right : (j : B.Job) → j.length ≡ length_of p → j.clock ≡ clock → j.words ≡ words_at g p (blocks_of g p)
+      → Right g p clock q t b (check_move g j q) t
   unfolding check_move store_judged
   check_right j l c h =
       let still : holds j.length q ≡ true = ap (λ (n : ℕ). holds n q) l ∙ same_holds p q same good in

@@ -68,14 +68,27 @@ module _ (g : Settings) where
 
   -- ---- sent back to slot 0
 
-  back_holds : (x : S.Stage) (j : B.Job) (p : List ℕ) (clock : ℕ) (q t u : List ℕ) → j.stage ≡ x → Holding g j p clock q t → Place g x j.words j.marks p clock t
+  back_holds : (x : S.Stage) (j : B.Job) (p : List ℕ) (clock : ℕ) (q t u : List ℕ) → j.stage ≡ x → Holding g j p clock q t
+      → Place g x j.words j.marks p clock t
       → Holding g (restarted_at x j) p clock q u
   unfolding marks_after
   back_holds Free j p clock q t u e h i = absurd i
   back_holds (Hash k) j p clock q t u e h i =
-      record { long = h.long; clock_is = h.clock_is; same = h.same; good = h.good; place = subst (λ (x : S.Stage). Place g x j.words j.marks p clock u) (sym e) i }
+      record {
+        long = h.long;
+        clock_is = h.clock_is;
+        same = h.same;
+        good = h.good;
+        place = subst (λ (x : S.Stage). Place g x j.words j.marks p clock u) (sym e) i;
+      }
   back_holds Check j p clock q t u e h i =
-      record { long = h.long; clock_is = h.clock_is; same = h.same; good = h.good; place = subst (λ (x : S.Stage). Place g x j.words j.marks p clock u) (sym e) i }
+      record {
+        long = h.long;
+        clock_is = h.clock_is;
+        same = h.same;
+        good = h.good;
+        place = subst (λ (x : S.Stage). Place g x j.words j.marks p clock u) (sym e) i;
+      }
   back_holds (Match k) j p clock q t u e h i =
       record { long = h.long; clock_is = h.clock_is; same = h.same; good = h.good; place = (i.0, omega arith, refl) }
 
@@ -86,11 +99,13 @@ module _ (g : Settings) where
 
   pub all-restarted : (js : List B.Job) (ns : List Note) (store t u : List ℕ) → Each js ns store t → Each (map restarted js) ns store u
   unfolding restarted
-  all-restarted js ns store t u h i = rw (get_or-map restarted js i free_job) (restarted_tied (job_at js i) (get_or ns i unnoted) (part_of i store) t u (h i))
+  all-restarted js ns store t u h i =
+      rw (get_or-map restarted js i free_job) (restarted_tied (job_at js i) (get_or ns i unnoted) (part_of i store) t u (h i))
 
   -- ---- a job and its note stored together
 
-  pub stored : (js : List B.Job) (ns : List Note) (store t : List ℕ) (j : ℕ) (x : B.Job) (n : Note) → j < length js → j < length ns → JobTied x n (part_of j store) t
+  pub stored : (js : List B.Job) (ns : List Note) (store t : List ℕ) (j : ℕ) (x : B.Job) (n : Note) → j < length js → j < length ns
+      → JobTied x n (part_of j store) t
       → ((i : ℕ) → i ≢ j → JobTied (job_at js i) (get_or ns i unnoted) (part_of i store) t) → Each (set js j x) (set ns j n) store t
   stored js ns store t j x n lj ln here rest i = go (ℕ_discrete i j)
     where

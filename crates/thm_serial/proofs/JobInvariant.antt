@@ -6,6 +6,7 @@ use mathlib.Core.Bool.{false, true≢false}
 use mathlib.Core.List.{List}
 use Prim.Native.Nat.{ℕ, ◌+◌, ◌≤◌, ◌<◌}
 use lib.ListN.{length}
+use Rattle.std.specs.Prelude.{Option, Some, None}
 use Rattle.packet_blocks.specs.Block.{block_count, hashed_to}
 use Rattle.table_slots.specs.Slot.{slot_count}
 use Rattle.table_slots.specs.Marks.{marks_after}
@@ -25,8 +26,6 @@ use Rattle.das_handle.specs.Handle.{answer_of, table_as, handle_answer, handle_t
 use Rattle.sched_job.specs.declared.Job as B
 use Rattle.sched_job.specs.declared.Stage as S
 use Rattle.sched_job.specs.declared.Stage.TheVariants.{Free, Hash, Check, Match}
-use Rattle.sched_job.specs.declared.Ending as E
-use Rattle.sched_job.specs.declared.Ending.TheVariants as K
 use Rattle.sched_job.specs.declared.Moved as M
 use Rattle.packet_words.specs.Words.{words_of}
 use Rattle.sched_job.specs.Job.{free_job}
@@ -55,7 +54,7 @@ module _ (g : Settings) where
     pub long : j.length ≡ length_of p
     pub clock_is : j.clock ≡ clock
     pub same : SamePacket p q
-    pub good : form_of p ≡ 0
+    pub good : form_of p ≡ None
     pub place : Place j.stage j.words j.marks p clock t
 
   module _ (p : List ℕ) (clock : ℕ) (q t b : List ℕ) where
@@ -72,16 +71,16 @@ module _ (g : Settings) where
       pub reply : handle_reply g t b p clock ≡ reply_as g.secret q b a
       pub kept : is_ack a ≡ false → u ≡ t
 
-    abbrev pub Ended : B.Job → List ℕ → E.Ending → Type 0
-    Ended j u K.Going = Continued j u
-    Ended j u (K.Done a) = Finished j u a
+    abbrev pub Ended : B.Job → List ℕ → Option D.Answer → Type 0
+    Ended j u None = Continued j u
+    Ended j u (Some a) = Finished j u a
 
     abbrev pub Right : M.Moved → List ℕ → Type 0
     Right m u = Ended m.job u m.ending
 
     -- only an ACK changes the table
     unacked : (a : D.Answer) → is_ack a ≡ false → table_as p t a ≡ t
-    unacked (A.Refused n) h = refl
+    unacked (A.Refused r) h = refl
     unacked (A.Discarded d) h = refl
     unacked (A.Stale skew) h = refl
     unacked (A.Nak c skew n) h = refl
@@ -100,6 +99,7 @@ module _ (g : Settings) where
         }
 
     -- handling a packet that meets none of D1 to D3, in a call that is not refused, is the rest of its verdict
-    pub handled_as : refusal_of g t b ≡ 0 → form_of p ≡ 0 → (v : Verdict) → check_verdict g (signed_by g.secret p) p clock ≡ v → handle_answer g t b p clock ≡ answer_of p t v
+    pub handled_as : refusal_of g t b ≡ None → form_of p ≡ None → (v : Verdict) → check_verdict g (signed_by g.secret p) p clock ≡ v
+        → handle_answer g t b p clock ≡ answer_of p t v
     unfolding handle_answer verdict_of
     handled_as r e v h = rw (r, e, h)

@@ -31,7 +31,8 @@ module _ (f : S.Stage → ℕ) (nought : (x : S.Stage) → is_open x ≡ false �
   unfolding total open_at
   total_lone n most [] j h = omega arith
   total_lone n most (x ∷ js) zero h = omega (arith, most x.stage, total_none js (λ i. h (suc i) (λ e. omega arith)))
-  total_lone n most (x ∷ js) (suc j) h = omega (arith, nought x.stage (h 0 (λ e. omega arith)), total_lone n most js j (λ i ne. h (suc i) (λ e. ne (omega arith))))
+  total_lone n most (x ∷ js) (suc j) h =
+      omega (arith, nought x.stage (h 0 (λ e. omega arith)), total_lone n most js j (λ i ne. h (suc i) (λ e. ne (omega arith))))
 
 left_none : (x : S.Stage) → is_open x ≡ false → left x ≡ 0
 left_none Free e = refl

@@ -10,6 +10,7 @@ use native.Mathlib.Omega.{arith}
 use borrow.Author.Tests.{ltb-true, ltb-false}
 use lib.Dec.{ltb}
 use lib.ListN.{set}
+use Rattle.std.specs.Prelude.{None}
 use Rattle.table_slots.specs.Slot.{slot_count}
 use Rattle.table_slots.specs.Marks.{marks_after}
 use Rattle.rule_stamp.specs.Stamp.{stamp_of}
@@ -31,7 +32,8 @@ use Rattle.thm_serial.proofs.SameAnswers.{answer_same, table_same}
 use Rattle.thm_serial.proofs.PassedCheck.{Passing, passing_holds}
 use Rattle.thm_serial.proofs.JobInvariant.{Right, ends_with, handled_as}
 
-module _ (g : Settings) (p : List ℕ) (clock : ℕ) (q t b : List ℕ) (open-to : refusal_of g t b ≡ 0) (good : form_of p ≡ 0) (same : SamePacket p q)
+module _ (g : Settings) (p : List ℕ) (clock : ℕ) (q t b : List ℕ) (open-to : refusal_of g t b ≡ None) (good : form_of p ≡ None)
+    (same : SamePacket p q)
     (passed : Passing g (signed_by g.secret p) p clock) where
   commit_right : (j : B.Job) → j.clock ≡ clock → j.marks ≡ marks_after (matches_in (area_of p) t) (slot_count t)
       → Right g p clock q t b (commit_move j q t) (commit_table q j.marks t)
@@ -50,7 +52,8 @@ module _ (g : Settings) (p : List ℕ) (clock : ℕ) (q t b : List ℕ) (open-to
   next_marks k m e = rw (same.area, e)
 
   by_slot : (f : Bool) (k : ℕ) (j : B.Job) → ltb k (slot_count t) ≡ f → j.length ≡ length_of p → j.clock ≡ clock → k ≤ slot_count t
-      → j.marks ≡ marks_after (matches_in (area_of p) t) k → Right g p clock q t b (cond f (going (match_job j k q t)) (commit_move j q t)) (cond f t (commit_table q j.marks t))
+      → j.marks ≡ marks_after (matches_in (area_of p) t) k
+      → Right g p clock q t b (cond f (going (match_job j k q t)) (commit_move j q t)) (cond f t (commit_table q j.marks t))
   unfolding match_job
   by_slot true k j e l c h i =
       record {
@@ -67,9 +70,11 @@ module _ (g : Settings) (p : List ℕ) (clock : ℕ) (q t b : List ℕ) (open-to
       let n : k ≡ slot_count t = omega (arith, ltb-false k (slot_count t) e) in
       commit_right j c (i ∙ ap (marks_after (matches_in (area_of p) t)) n)
 
-  pub slot_right : (k : ℕ) (j : B.Job) → j.length ≡ length_of p → j.clock ≡ clock → k ≤ slot_count t → j.marks ≡ marks_after (matches_in (area_of p) t) k
+  pub slot_right : (k : ℕ) (j : B.Job) → j.length ≡ length_of p → j.clock ≡ clock → k ≤ slot_count t
+      → j.marks ≡ marks_after (matches_in (area_of p) t) k
       → Right g p clock q t b (slot_move g j k q t) (slot_table g j k q t)
   unfolding slot_move slot_table
   slot_right k j l c h i =
-      let still : holds_passed g j.length q ≡ true = ap (λ (n : ℕ). holds_passed g n q) l ∙ passing_holds p q same good g (signed_by g.secret p) clock passed in
+      let still : holds_passed g j.length q ≡ true =
+      ap (λ (n : ℕ). holds_passed g n q) l ∙ passing_holds p q same good g (signed_by g.secret p) clock passed in
       rw still (by_slot (ltb k (slot_count t)) k j refl l c h i)

@@ -8,30 +8,30 @@ use Prim.Native.Nat.{ℕ}
 use borrow.Author.Tests.{eqb-true}
 use lib.Dec.{eqb, ltb}
 use lib.IntN.{ℤ}
-use lib.ListN.{length}
+use Rattle.std.specs.Prelude.{Option, Some, None}
+use Rattle.refusals.specs.declared.Discard.TheVariants as R
 use Rattle.table_slots.specs.Slot.{slot_count}
 use Rattle.table_change.specs.Change.{count_marked}
-use Rattle.rule_causes.specs.declared.Cause.TheVariants.{SessionNotFound}
+use Rattle.rule_causes.specs.declared.cause.Cause.TheVariants.{SessionNotFound}
 use Rattle.packet_form.specs.Packet.{code_of, area_of}
 use Rattle.nas_settings.specs.Settings.{Settings}
 use Rattle.das_effects.specs.Changes.{change_of}
 use Rattle.das_effects.proofs.Marked.{none-marked}
+use Rattle.das_answer.specs.declared.Answer as A'
 use Rattle.das_answer.specs.declared.Answer.TheVariants as A
 use Rattle.das_answer.specs.Commit.{count_answer, commit_answer, commit_table}
 use Rattle.sched_job.specs.declared.Job as B
 use Rattle.sched_job.specs.declared.Stage as S
 use Rattle.sched_job.specs.declared.Stage.TheVariants.{Free, Hash, Check, Match}
-use Rattle.sched_job.specs.declared.Ending as E
-use Rattle.sched_job.specs.declared.Ending.TheVariants as K
 use Rattle.sched_reread.specs.Reread.{holds_passed}
 use Rattle.sched_job.specs.Moves.{going, done, match_job, commit_move, slot_move, slot_table, moved_at, moved_table_at}
 use Rattle.sched_state.specs.Calls.{is_ack}
 use Rattle.thm_serial.specs.Steps.{awaits}
 
 -- the move ended in ACK
-abbrev pub acked : E.Ending → Bool
-acked K.Going = false
-acked (K.Done a) = is_ack a
+abbrev pub acked : Option A'.Answer → Bool
+acked None = false
+acked (Some a) = is_ack a
 
 -- ---- the table
 
@@ -46,7 +46,8 @@ module _ (q t : List ℕ) where
   unfolding commit_answer count_answer
   commit_kept m skew a = by_count (eqb (count_marked m (slot_count t) t) 0) m (count_marked m (slot_count t) t) _ _ skew refl refl a
 
-  slot_kept : (f e : Bool) (j : B.Job) (k : ℕ) → acked (cond f (cond e (going (match_job j k q t)) (commit_move j q t)) (done (A.Discarded 1))).ending ≡ false
+  slot_kept : (f e : Bool) (j : B.Job) (k : ℕ)
+      → acked (cond f (cond e (going (match_job j k q t)) (commit_move j q t)) (done (A.Discarded R.Length))).ending ≡ false
       → cond f (cond e t (commit_table q j.marks t)) t ≡ t
   unfolding commit_move
   slot_kept true true j k a = refl

@@ -3,6 +3,7 @@
 use mathlib.Core.Path.{◌≡◌}
 use mathlib.Core.List.{List}
 use Prim.Native.Nat.{ℕ}
+use Rattle.std.specs.Prelude.{None}
 use Rattle.nas_settings.specs.Settings.{Settings}
 use Rattle.das_handle.specs.Refusals.{refusal_of}
 use Rattle.sched_job.specs.declared.Job as B
@@ -13,7 +14,7 @@ use Rattle.thm_serial.proofs.JobInvariant.{Place, Holding, Right}
 use Rattle.thm_serial.proofs.HashCheck.{hash_right, check_right}
 use Rattle.thm_serial.proofs.MatchCommit.{slot_right}
 
-module _ (g : Settings) (p : List ℕ) (clock : ℕ) (q t b : List ℕ) (open-to : refusal_of g t b ≡ 0) (j : B.Job) (h : Holding g j p clock q t) where
+module _ (g : Settings) (p : List ℕ) (clock : ℕ) (q t b : List ℕ) (open-to : refusal_of g t b ≡ None) (j : B.Job) (h : Holding g j p clock q t) where
   by_stage : (x : S.Stage) → Place g x j.words j.marks p clock t → Right g p clock q t b (moved_at g x j q t) (moved_table_at g x j q t)
   by_stage Free i = absurd i
   by_stage (Hash k) i = hash_right g p clock q t b open-to h.good h.same k j h.long h.clock_is i.0 i.1

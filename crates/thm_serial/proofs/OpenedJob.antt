@@ -5,6 +5,7 @@ use mathlib.Core.List.{List, []}
 use Prim.Native.Nat.{ℕ, ◌+◌, ◌*◌, ◌<◌}
 use native.Mathlib.Omega.{arith}
 use lib.ListN.{length, take, set, length-set}
+use Rattle.std.specs.Prelude.{None}
 use Rattle.octet_numbers.specs.Runs.{write}
 use Rattle.octet_numbers.proofs.Write.{length-write}
 use Rattle.packet_blocks.specs.Block.{block_count}
@@ -28,14 +29,16 @@ pub some_block : (n : ℕ) → 0 < block_count n
 unfolding block_count
 some_block n = omega arith
 
-module _ (s : D.Scheduler) (t store : List ℕ) (ns : List Note) (h : Tied (record { scheduler = s; table = t; store = store }) ns) (p : List ℕ) (clock : ℕ) where
+module _ (s : D.Scheduler) (t store : List ℕ) (ns : List Note) (h : Tied (record { scheduler = s; table = t; store = store }) ns) (p : List ℕ)
+    (clock : ℕ) where
   abbrev before : World
   before = record { scheduler = s; table = t; store = store }
 
   abbrev pub room : List ℕ → ℕ → List ℕ
   room l j = write l (j * 4096) (take (length_of p) p)
 
-  first_holds : (j : ℕ) → form_of p ≡ 0 → j < 4 → length store ≡ 16384 → Holding (settings_of s) (first_job (length_of p) clock) p clock (part_of j (room store j)) t
+  first_holds : (j : ℕ) → form_of p ≡ None → j < 4 → length store ≡ 16384
+      → Holding (settings_of s) (first_job (length_of p) clock) p clock (part_of j (room store j)) t
   first_holds j e l z =
       record {
         long = refl;
@@ -45,7 +48,7 @@ module _ (s : D.Scheduler) (t store : List ℕ) (ns : List Note) (h : Tied (reco
         place = (some_block (length_of p + length (settings_of s).secret), rw (blocks_none p (length_of p) (settings_of s).secret));
       }
 
-  pub opened : (j : ℕ) → form_of p ≡ 0 → j < 4 → length store ≡ 16384
+  pub opened : (j : ℕ) → form_of p ≡ None → j < 4 → length store ≡ 16384
       → Agree (length store) (did (called (with_job s j (first_job (length_of p) clock)) (O.Opened j)) [] t (room store j))
       (serial_did (O.Opened j) [] (with_note (serial_of before ns) j (noted p clock)))
   opened j e l z =
@@ -58,7 +61,8 @@ module _ (s : D.Scheduler) (t store : List ℕ) (ns : List Note) (h : Tied (reco
           count = simp length-set h.count;
           notes = simp length-set h.notes;
           each =
-              stored (settings_of s) s.jobs ns (room store j) t j (first_job (length_of p) clock) (noted p clock) (omega (arith, h.count)) (omega (arith, h.notes))
+              stored (settings_of s) s.jobs ns (room store j) t j (first_job (length_of p) clock) (noted p clock) (omega (arith, h.count))
+              (omega (arith, h.notes))
               (first_holds j e l z) (λ i ne. rw (opened_other p e store j i ne) (h.each i));
         };
         size = length-write store (j * 4096) (take (length_of p) p);

@@ -8,15 +8,17 @@ use Prim.Native.Nat.{ℕ, ◌+◌}
 use borrow.Author.Tests.{ltb-true}
 use lib.Dec.{ltb}
 use lib.ListN.{length}
+use lib.IntN.{ℤ}
+use Rattle.std.specs.Prelude.{None, Result, Ok, Err}
+use Rattle.refusals.specs.declared.Discard.TheVariants as R
 use Rattle.packet_blocks.specs.Block.{block_count}
 use Rattle.table_slots.specs.Slot.{slot_count}
 use Rattle.packet_form.specs.Packet.{length_of}
 use Rattle.nas_settings.specs.Settings.{Settings}
 use Rattle.packet_form.specs.Discards.{form_of}
 use Rattle.packet_form.proofs.Forms.{form_sized}
+use Rattle.das_answer.specs.declared.Answer.{Answer}
 use Rattle.das_answer.specs.declared.Answer.TheVariants as A
-use Rattle.das_judge.specs.declared.Judged.{Judged}
-use Rattle.das_judge.specs.declared.Judged.TheVariants.{Ended, Passed}
 use Rattle.sched_reread.specs.Check.{store_judged}
 use Rattle.sched_job.specs.declared.Job as B
 use Rattle.sched_job.specs.declared.Stage as S
@@ -32,17 +34,19 @@ hash_placed : (f : Bool) (k n l : ℕ) → ltb (k + 1) (block_count (l + n)) ≡
 hash_placed true k n l e h = (h.0, h.1, ltb-true (k + 1) (block_count (l + n)) e)
 hash_placed false k n l e h = tt
 
-checked_placed : (n : ℕ) (x : Judged) (j : B.Job) → JobOurs n (checked_as j x).job
-checked_placed n (Ended a) j = tt
-checked_placed n (Passed k) j = tt
+checked_placed : (n : ℕ) (x : Result ℤ Answer) (j : B.Job) → JobOurs n (checked_as j x).job
+checked_placed n (Err a) j = tt
+checked_placed n (Ok k) j = tt
 
-slot_placed : (f e : Bool) (n k : ℕ) (j : B.Job) (q t : List ℕ) → JobOurs n (cond f (cond e (going (match_job j k q t)) (commit_move j q t)) (done (A.Discarded 1))).job
+slot_placed : (f e : Bool) (n k : ℕ) (j : B.Job) (q t : List ℕ)
+    → JobOurs n (cond f (cond e (going (match_job j k q t)) (commit_move j q t)) (done (A.Discarded R.Length))).job
 unfolding match_job commit_move
 slot_placed true true n k j q t = tt
 slot_placed true false n k j q t = tt
 slot_placed false e n k j q t = tt
 
-stage_placed : (g : Settings) (n : ℕ) (x : S.Stage) (j : B.Job) (q t : List ℕ) → length g.secret ≡ n → j.stage ≡ x → Placed n x j.length → JobOurs n (moved_at g x j q t).job
+stage_placed : (g : Settings) (n : ℕ) (x : S.Stage) (j : B.Job) (q t : List ℕ) → length g.secret ≡ n → j.stage ≡ x → Placed n x j.length
+    → JobOurs n (moved_at g x j q t).job
 unfolding hash_job check_move slot_move
 stage_placed g n Free j q t e i h = rw i h
 stage_placed g n (Hash k) j q t e i h = rw e (hash_placed (ltb (k + 1) (block_count (j.length + n))) k n j.length refl h)
@@ -63,5 +67,5 @@ pub restarted_ours : (n : ℕ) (j : B.Job) → JobOurs n j → JobOurs n (restar
 unfolding restarted
 restarted_ours n j h = back_placed n j.stage j refl h
 
-pub first_ours : (n : ℕ) (p : List ℕ) (clock : ℕ) → form_of p ≡ 0 → JobOurs n (first_job (length_of p) clock)
+pub first_ours : (n : ℕ) (p : List ℕ) (clock : ℕ) → form_of p ≡ None → JobOurs n (first_job (length_of p) clock)
 first_ours n p clock e = let z = form_sized p e in (z.low, z.high, some_block (length_of p + n))

@@ -7,28 +7,25 @@ use mathlib.Core.List.{List}
 use Prim.Native.Nat.{ℕ, ◌<◌}
 use native.Mathlib.Decide.{ℕ_discrete}
 use native.Mathlib.Omega.{arith}
-use borrow.Author.Tests.{eqb-true}
-use lib.Dec.{eqb}
 use lib.ListN.{length, set, length-set, length-map, get_or-map}
 use lib.Seq.{get_or-set_same, get_or-set_other, length-take-le}
+use Rattle.std.specs.Prelude.{Option, Some, None, Result, Ok, Err}
+use Rattle.refusals.specs.declared.Refusal.{Refusal}
+use Rattle.refusals.specs.declared.Discard.{Discard}
 use Rattle.table_records.specs.Record.{Session}
-use Rattle.table_sessions.specs.declared.Inserted as I
-use Rattle.table_sessions.specs.declared.Inserted.TheVariants.{Slot, NotInserted}
-use Rattle.table_sessions.specs.declared.Removed as X
-use Rattle.table_sessions.specs.declared.Removed.TheVariants.{Gone, NotRemoved}
 use Rattle.table_sessions.specs.Session.{insert_answer, remove_answer}
 use Rattle.packet_form.specs.Packet.{length_of}
 use Rattle.packet_form.specs.Discards.{form_of}
+use Rattle.das_answer.specs.declared.Answer.{Answer}
 use Rattle.sched_job.specs.declared.Job as B
-use Rattle.sched_job.specs.declared.Ending as E
-use Rattle.sched_job.specs.declared.Ending.TheVariants as K
 use Rattle.sched_job.specs.declared.Moved as M
 use Rattle.sched_job.specs.Job.{free_job, first_job, restarted, JobOurs}
 use Rattle.sched_state.specs.declared.Scheduler as D
 use Rattle.sched_state.specs.declared.Outcome.TheVariants as O
 use Rattle.sched_state.specs.Scheduler.{settings_of, job_at, open_at, lowest_free, with_job, restart_all, part_of, Ours}
 use Rattle.sched_state.specs.Refusals.{open_refusal, step_refusal, drop_refusal}
-use Rattle.sched_state.specs.Calls.{called, is_ack, stepped_as, moved_of, open_called, step_called, drop_called, started_as, start_called, ended_as, end_called}
+use Rattle.sched_state.specs.Calls.{called, unless_refused, opened_as, is_ack, stepped_as, moved_of}
+use Rattle.sched_state.specs.Calls.{open_called, step_called, drop_called, started_as, start_called, ended_as, end_called}
 use Rattle.sched_state.specs.Runs.{Call, Open, Step, Drop, Start, End, World, call}
 use Rattle.thm_serial.proofs.Invariant.{open_below}
 use Rattle.thm_serial.proofs.Refusals.{step_admitted, drop_admitted, open_admitted}
@@ -73,17 +70,17 @@ module _ (s : D.Scheduler) (o : Ours s) where
 
   -- ---- Open
 
-  by_open : (f d : Bool) (p : List ℕ) (clock r n j : ℕ) → (f ≡ true → j < 4) → eqb (form_of p) 0 ≡ d
-      → Ours (cond f (cond d (called (with_job s j (first_job (length_of p) clock)) (O.Opened j)) (called s (O.Discarded n))) (called s (O.Refused r))).scheduler
-  by_open true true p clock r n j l e = stored_ours j (first_job (length_of p) clock) (l refl) (first_ours s.secret_size p clock (eqb-true (form_of p) 0 e))
-  by_open true false p clock r n j l e = o
-  by_open false d p clock r n j l e = o
+  by_open : (f : Option Refusal) (d : Option Discard) (p : List ℕ) (clock : ℕ) → (f ≡ None → lowest_free (open_at s.jobs) < 4) → form_of p ≡ d
+      → Ours (unless_refused s f (opened_as s p clock d)).scheduler
+  by_open None None p clock l e =
+      stored_ours (lowest_free (open_at s.jobs)) (first_job (length_of p) clock) (l refl) (first_ours s.secret_size p clock e)
+  by_open None (Some d) p clock l e = o
+  by_open (Some r) d p clock l e = o
 
   pub open_ours : (p : List ℕ) (clock : ℕ) (store : List ℕ) → Ours (open_called s p clock store).scheduler
   unfolding open_called
   open_ours p clock store =
-      by_open (eqb (open_refusal (open_at s.jobs) (length store)) 0) (eqb (form_of p) 0) p clock _ (form_of p) (lowest_free (open_at s.jobs))
-      (λ e. (open_admitted (open_at s.jobs) (length store) (eqb-true _ 0 e)).1) refl
+      by_open (open_refusal (open_at s.jobs) (length store)) (form_of p) p clock (λ e. (open_admitted (open_at s.jobs) (length store) e).1) refl
 
   -- ---- Step
 
@@ -91,47 +88,47 @@ module _ (s : D.Scheduler) (o : Ours s) where
   by_ack true x h = restart_ours x h
   by_ack false x h = h
 
-  by_ending : (j : ℕ) (m : M.Moved) (e : E.Ending) → j < 4 → JobOurs s.secret_size m.job → Ours (stepped_as s j m e).scheduler
-  by_ending j m K.Going l h = stored_ours j m.job l h
-  by_ending j m (K.Done a) l h = by_ack (is_ack a) (with_job s j m.job) (stored_ours j m.job l h)
+  by_ending : (j : ℕ) (m : M.Moved) (e : Option Answer) → j < 4 → JobOurs s.secret_size m.job → Ours (stepped_as s j m e).scheduler
+  by_ending j m None l h = stored_ours j m.job l h
+  by_ending j m (Some a) l h = by_ack (is_ack a) (with_job s j m.job) (stored_ours j m.job l h)
 
   secret_long : length (settings_of s).secret ≡ s.secret_size
   secret_long = length-take-le s.secret_size s.secret (omega (arith, o.secret_high, o.secret_room))
 
-  by_step : (f : Bool) (j : ℕ) (t store : List ℕ) (r : ℕ) → (f ≡ true → j < 4)
-      → Ours (cond f (stepped_as s j (moved_of s j t store) (moved_of s j t store).ending) (called s (O.Refused r))).scheduler
-  by_step true j t store r l =
+  by_step : (f : Option Refusal) (j : ℕ) (t store : List ℕ) → (f ≡ None → j < 4)
+      → Ours (unless_refused s f (stepped_as s j (moved_of s j t store) (moved_of s j t store).ending)).scheduler
+  by_step None j t store l =
       by_ending j (moved_of s j t store) (moved_of s j t store).ending (l refl)
       (moved_ours (settings_of s) s.secret_size (job_at s.jobs j) (part_of j store) t secret_long (o.each j))
-  by_step false j t store r l = o
+  by_step (Some r) j t store l = o
 
   pub step_ours : (j : ℕ) (t b store : List ℕ) → Ours (step_called s j t b store).scheduler
   unfolding step_called
   step_ours j t b store =
-      by_step (eqb (step_refusal (open_at s.jobs) (length store) j t b) 0) j t store _
-      (λ e. below j (step_admitted (open_at s.jobs) (length store) j t b (eqb-true _ 0 e)).open_is)
+      by_step (step_refusal (open_at s.jobs) (length store) j t b) j t store
+      (λ e. below j (step_admitted (open_at s.jobs) (length store) j t b e).open_is)
 
   -- ---- Drop, Start, End
 
-  by_drop : (f : Bool) (j r : ℕ) → (f ≡ true → j < 4) → Ours (cond f (called (with_job s j free_job) O.Dropped) (called s (O.Refused r))).scheduler
-  by_drop true j r l = stored_ours j free_job (l refl) tt
-  by_drop false j r l = o
+  by_drop : (f : Option Refusal) (j : ℕ) → (f ≡ None → j < 4) → Ours (unless_refused s f (called (with_job s j free_job) O.Dropped)).scheduler
+  by_drop None j l = stored_ours j free_job (l refl) tt
+  by_drop (Some r) j l = o
 
   pub drop_ours : (j : ℕ) → Ours (drop_called s j).scheduler
   unfolding drop_called
-  drop_ours j = by_drop (eqb (drop_refusal (open_at s.jobs) j) 0) j _ (λ e. below j (drop_admitted (open_at s.jobs) 0 j (eqb-true _ 0 e)))
+  drop_ours j = by_drop (drop_refusal (open_at s.jobs) j) j (λ e. below j (drop_admitted (open_at s.jobs) 0 j e))
 
-  by_start : (v : I.Inserted) → Ours (started_as s v).scheduler
-  by_start (Slot k) = restart_ours s o
-  by_start (NotInserted n) = o
+  by_start : (v : Result ℕ Refusal) → Ours (started_as s v).scheduler
+  by_start (Ok k) = restart_ours s o
+  by_start (Err r) = o
 
   pub start_ours : (x : Session) (t : List ℕ) → Ours (start_called s x t).scheduler
   unfolding start_called
   start_ours x t = by_start (insert_answer x t)
 
-  by_end : (v : X.Removed) → Ours (ended_as s v).scheduler
-  by_end Gone = restart_ours s o
-  by_end (NotRemoved n) = o
+  by_end : (v : Result (Unit {0}) Refusal) → Ours (ended_as s v).scheduler
+  by_end (Ok x) = restart_ours s o
+  by_end (Err r) = o
 
   pub end_ours : (k : ℕ) (t : List ℕ) → Ours (end_called s k t).scheduler
   unfolding end_called

@@ -11,6 +11,7 @@ use borrow.Author.Tests.{ltb-true, ltb-false}
 use lib.Dec.{ltb}
 use lib.ListN.{length, take, drop}
 use lib.Seq.{take-take, length-take-le}
+use Rattle.std.specs.Prelude.{None}
 use Rattle.octet_numbers.specs.Runs.{part, write}
 use Rattle.octet_numbers.proofs.Write.{length-write}
 use Rattle.octet_numbers.proofs.Part.{length_part, part_before, part-after, part-written}
@@ -25,7 +26,7 @@ front : (n m at : ℕ) (l : List ℕ) → n ≤ m → take n (part at m l) ≡ p
 unfolding part
 front n m at l h = take-take n m (drop at l) h
 
-module _ (p : List ℕ) (good : form_of p ≡ 0) (store : List ℕ) (j : ℕ) where
+module _ (p : List ℕ) (good : form_of p ≡ None) (store : List ℕ) (j : ℕ) where
   sized : Sized p (length_of p)
   sized = form_sized p good
 
@@ -51,4 +52,5 @@ module _ (p : List ℕ) (good : form_of p ≡ 0) (store : List ℕ) (j : ℕ) wh
     where
       go : (b : Bool) → ltb i j ≡ b → part_of i (write store (j * 4096) (take (length_of p) p)) ≡ part_of i store
       go true e = let l = ltb-true i j e in part_before store (j * 4096) (take (length_of p) p) (i * 4096) 4096 (omega arith)
-      go false e = let l = ltb-false i j e in part-after store (j * 4096) (take (length_of p) p) (i * 4096) 4096 (rw kept (omega (arith, sized.high)))
+      go false e =
+          let l = ltb-false i j e in part-after store (j * 4096) (take (length_of p) p) (i * 4096) 4096 (rw kept (omega (arith, sized.high)))

@@ -6,37 +6,36 @@ use mathlib.Core.Path.{◌≡◌, refl, sym, ◌∙◌}
 use mathlib.Core.Bool.{Bool, true, false, not}
 use mathlib.Core.List.{List}
 use Prim.Native.Nat.{ℕ, ◌≤◌}
-use native.Mathlib.Omega.{arith}
 use borrow.Author.Tests.{eq-eqb, ltb-false}
 use lib.Dec.{eqb}
 use lib.IntN.{ℤ}
 use Rattle.octet_numbers.proofs.Bools.{neither}
 use Rattle.attr_walk.specs.declared.Attribute.{Attribute}
-use Rattle.std.specs.Prelude.{Option, Some, None}
+use Rattle.std.specs.Prelude.{Option, Some, None, is_some}
 use Rattle.attr_walk.specs.Attributes.{attributes, any, found, first_of, on_first, count_of, kind_is}
 use Rattle.attr_walk.proofs.Searches.{only}
 use Rattle.attr_survey.specs.Survey.{size_of}
 use Rattle.packet_auth.specs.Signing.{zeros}
 use Rattle.rule_stamp.specs.Stamp.{stamp_of}
-use Rattle.rule_causes.specs.Causes.{applies, cause_of}
+use Rattle.rule_causes.specs.Causes.{cause_of}
 use Rattle.rule_verdict.specs.declared.Verdict.TheVariants as J
 use Rattle.packet_form.specs.Packet.{code_of, length_of, area_of}
 use Rattle.packet_form.specs.Discards.{form_of}
 use Rattle.nas_settings.specs.Settings.{Settings}
 use Rattle.packet_mac.specs.Discards.{bad_mac}
 use Rattle.packet_laws.proofs.SameBytes.{SamePacket}
-use Rattle.rule_verdict.specs.Verdict.{nak_or, fresh_verdict, check_verdict}
+use Rattle.rule_verdict.specs.Verdict.{fresh_verdict, check_verdict}
 use Rattle.das_reply.proofs.Judged.{mac_eighteen}
 use Rattle.das_reply.proofs.Fresh.{reached, uncaused}
-use Rattle.sched_reread.specs.Reread.{usable, odd_mac, holds, holds_passed}
+use Rattle.sched_reread.specs.Reread.{odd_mac, holds, holds_passed}
 use Rattle.sched_job.specs.Moves.{skew_at}
 
 -- signed says that D4 does not apply
 pub record Passing (g : Settings) (signed : Bool) (p : List ℕ) (clock : ℕ) : Type 0 where
   pub verdict : check_verdict g signed p clock ≡ J.Passed (skew_at (stamp_of (area_of p)) clock)
-  pub stamped : usable (stamp_of (area_of p)) ≡ true
+  pub stamped : is_some (stamp_of (area_of p)) ≡ true
   pub even : any odd_mac (attributes (area_of p)) ≡ false
-  pub uncaused_is : applies (cause_of (code_of p) g.nas_ip g.nas_id (area_of p)) ≡ false
+  pub uncaused_is : cause_of (code_of p) g.nas_ip g.nas_id (area_of p) ≡ None
 
 -- ---- D5
 
@@ -57,10 +56,10 @@ module _ (g : Settings) (p : List ℕ) (clock : ℕ) (k : ℤ) where
   signed_true : (b : Bool) → check_verdict g b p clock ≡ J.Passed k → b ≡ true
   unfolding check_verdict
   signed_true true e = refl
-  signed_true false e = let o : ◌≡◌ {A = ℕ} 0 1 = cc in absurd (omega arith)
+  signed_true false e = cc
 
   pub passing : (signed : Bool) → check_verdict g signed p clock ≡ J.Passed k → Passing g signed p clock
-  unfolding fresh_verdict nak_or
+  unfolding fresh_verdict
   passing signed e =
       let s : signed ≡ true = signed_true signed e in
       let e' : check_verdict g true p clock ≡ J.Passed k = rw s at e in
@@ -70,12 +69,12 @@ module _ (g : Settings) (p : List ℕ) (clock : ℕ) (k : ℤ) where
         verdict = e ∙ r.is ∙ rw (c, r.usable);
         stamped = rw r.usable;
         even = no_odd g.secret p r.right;
-        uncaused_is = rw c;
+        uncaused_is = c;
       }
 
 -- ---- read again
 
-module _ (p q : List ℕ) (s : SamePacket p q) (good : form_of p ≡ 0) where
+module _ (p q : List ℕ) (s : SamePacket p q) (good : form_of p ≡ None) where
   -- found unaltered before Check
   pub same_holds : holds (length_of p) q ≡ true
   unfolding holds

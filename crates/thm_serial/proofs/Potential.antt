@@ -42,7 +42,8 @@ potential js = total left js + 64 * pairs (total opens js)
 
 -- ---- sums over the jobs
 
-pub total_set : (f : S.Stage → ℕ) (js : List B.Job) (j : ℕ) (x : B.Job) → j < length js → total f (set js j x) + f (job_at js j).stage ≡ total f js + f x.stage
+pub total_set : (f : S.Stage → ℕ) (js : List B.Job) (j : ℕ) (x : B.Job) → j < length js
+    → total f (set js j x) + f (job_at js j).stage ≡ total f js + f x.stage
 unfolding total
 total_set f [] j x h = absurd (omega arith)
 total_set f (y ∷ js) zero x h = omega arith

@@ -6,6 +6,7 @@ use mathlib.Core.Bool.{Bool, true, false}
 use mathlib.Core.List.{List, ◌++◌}
 use Prim.Native.Nat.{ℕ, ◌≤◌}
 use native.Mathlib.Omega.{arith}
+use Rattle.std.specs.Prelude.{None}
 use Rattle.nas_settings.specs.Settings.{Settings}
 use Rattle.sched_state.specs.declared.Scheduler as D
 use Rattle.sched_state.specs.Scheduler.{settings_of, open_at}
@@ -36,7 +37,7 @@ module _ (s : D.Scheduler) (new : New s) (cs ds : List Call) (t store : List ℕ
       let o = notes_open (run (cs ++ ds) (world s t store)) (serially (cs ++ ds) s t store) (whole s new (cs ++ ds) t store) in
       ap (λ (f : ℕ → Bool). f j) (sym o) ∙ rw (run-after cs ds (world s t store)) (finishes q h j)
 
-made : (g : Settings) → make_refusal g ≡ 0 → New (made_of g) × (settings_of (made_of g) ≡ g)
+made : (g : Settings) → make_refusal g ≡ None → New (made_of g) × (settings_of (made_of g) ≡ g)
 made g h = (record { ours = made_ours g h; free = made_jobs g }, made_settings g h)
 
 pub demand3 : Demand3

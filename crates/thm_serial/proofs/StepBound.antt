@@ -2,35 +2,31 @@
 -- refused lowers the bound by one or more, and no other call of the list raises it.
 -- Assumes nothing.
 use mathlib.Core.Path.{◌≡◌, refl, sym, ◌∙◌}
-use mathlib.Core.Bool.{Bool, true, false, cond, false≢true}
+use mathlib.Core.Bool.{true, false≢true}
 use mathlib.Core.List.{List, [], ◌∷◌}
 use Prim.Native.Nat.{ℕ, ◌+◌, ◌≤◌, ◌<◌}
 use native.Mathlib.Omega.{arith}
-use borrow.Author.Tests.{eqb-true}
-use lib.Dec.{eqb}
 use lib.ListN.{length, get_or}
+use Rattle.std.specs.Prelude.{Option, Some, None, Result, Ok, Err}
+use Rattle.refusals.specs.declared.Refusal.{Refusal}
+use Rattle.refusals.specs.declared.Discard.{Discard}
 use Rattle.octet_numbers.proofs.Equality.{and_both}
 use Rattle.packet_blocks.specs.Block.{block_count}
 use Rattle.packet_blocks.proofs.Stepwise.{blocks_most}
-use Rattle.table_sessions.specs.declared.Inserted as I
-use Rattle.table_sessions.specs.declared.Inserted.TheVariants.{Slot, NotInserted}
-use Rattle.table_sessions.specs.declared.Removed as X
-use Rattle.table_sessions.specs.declared.Removed.TheVariants.{Gone, NotRemoved}
 use Rattle.table_sessions.specs.Session.{insert_answer, remove_answer}
-use Rattle.packet_form.specs.Packet.{length_of}
 use Rattle.packet_form.specs.Discards.{form_of}
 use Rattle.packet_form.proofs.Forms.{form_sized}
+use Rattle.das_answer.specs.declared.Answer.{Answer}
 use Rattle.sched_job.specs.declared.Job as B
-use Rattle.sched_job.specs.declared.Ending as E
-use Rattle.sched_job.specs.declared.Ending.TheVariants as K
 use Rattle.sched_job.specs.declared.Moved as M
-use Rattle.sched_job.specs.Job.{free_job, first_job}
+use Rattle.sched_job.specs.Job.{free_job}
 use Rattle.sched_job.specs.Moves.{moved, moved_table}
 use Rattle.sched_state.specs.declared.Scheduler as D
 use Rattle.sched_state.specs.declared.Outcome.TheVariants as O
-use Rattle.sched_state.specs.Scheduler.{settings_of, job_at, open_at, lowest_free, with_job, part_of}
+use Rattle.sched_state.specs.Scheduler.{settings_of, job_at, open_at, with_job, part_of}
 use Rattle.sched_state.specs.Refusals.{open_refusal, step_refusal, drop_refusal}
-use Rattle.sched_state.specs.Calls.{called, stepped_as, moved_of, open_called, step_called, drop_called, started_as, start_called, ended_as, end_called}
+use Rattle.sched_state.specs.Calls.{called, unless_refused, opened_as, stepped_as, moved_of}
+use Rattle.sched_state.specs.Calls.{open_called, step_called, drop_called, started_as, start_called, ended_as, end_called}
 use Rattle.sched_state.specs.declared.Called as C
 use Rattle.sched_state.specs.Runs.{Call, Open, Step, Drop, Start, End, World, call, run}
 use Rattle.thm_serial.specs.Serial.{Note, unnoted, noted}
@@ -50,12 +46,14 @@ Spent js c = quiet_by c.outcome ≡ true → potential c.scheduler.jobs + counts
 module _ (s : D.Scheduler) (t store : List ℕ) (ns : List Note) (h : Tied (record { scheduler = s; table = t; store = store }) ns) where
   -- ---- a step
 
-  few_blocks : (j : B.Job) (p : List ℕ) (clock : ℕ) (q u : List ℕ) → Holding (settings_of s) j p clock q u → block_count (j.length + length (settings_of s).secret) ≤ 66
+  few_blocks : (j : B.Job) (p : List ℕ) (clock : ℕ) (q u : List ℕ) → Holding (settings_of s) j p clock q u
+      → block_count (j.length + length (settings_of s).secret) ≤ 66
   few_blocks j p clock q u k =
       let z = form_sized p k.good in
       blocks_most (j.length + length (settings_of s).secret) (omega (arith, k.long, z.high, h.made.short))
 
-  by_note : (n : Note) (j : ℕ) (b : List ℕ) → JobTied (settings_of s) (job_at s.jobs j) n (part_of j store) t → step_refusal (open_at s.jobs) (length store) j t b ≡ 0
+  by_note : (n : Note) (j : ℕ) (b : List ℕ) → JobTied (settings_of s) (job_at s.jobs j) n (part_of j store) t
+      → step_refusal (open_at s.jobs) (length store) j t b ≡ None
       → potential (stepped_as s j (moved_of s j t store) (moved_of s j t store).ending).scheduler.jobs < potential s.jobs
   unfolding open_at moved
   by_note unnoted j b k r = let a = step_admitted (open_at s.jobs) (length store) j t b r in absurd (false≢true (sym k ∙ a.open_is))
@@ -63,51 +61,51 @@ module _ (s : D.Scheduler) (t store : List ℕ) (ns : List Note) (h : Tied (reco
       let a = step_admitted (open_at s.jobs) (length store) j t b r in
       put_less s j a.open_is (settings_of s) p clock (part_of j store) t b (moved_table (settings_of s) (job_at s.jobs j) (part_of j store) t)
       (moved_of s j t store).job (moved_of s j t store).ending
-      (move_right (settings_of s) p clock (part_of j store) t b (handling_admitted (settings_of s) (open_at s.jobs) (length store) j t b h.made a) (job_at s.jobs j) k)
-      (moved_less (settings_of s) (job_at s.jobs j).stage (job_at s.jobs j) (part_of j store) t (few_blocks (job_at s.jobs j) p clock (part_of j store) t k) a.open_is)
+      (move_right (settings_of s) p clock (part_of j store) t b (handling_admitted (settings_of s) (open_at s.jobs) (length store) j t b h.made a)
+      (job_at s.jobs j) k)
+      (moved_less (settings_of s) (job_at s.jobs j).stage (job_at s.jobs j) (part_of j store) t
+      (few_blocks (job_at s.jobs j) p clock (part_of j store) t k) a.open_is)
 
-  one_step : (j : ℕ) (m : M.Moved) (e : E.Ending) → counts_by (stepped_as s j m e).outcome ≡ 1
-  one_step j m K.Going = refl
-  one_step j m (K.Done a) = refl
+  one_step : (j : ℕ) (m : M.Moved) (e : Option Answer) → counts_by (stepped_as s j m e).outcome ≡ 1
+  one_step j m None = refl
+  one_step j m (Some a) = refl
 
-  by_refusal : (f : Bool) (j : ℕ) (b : List ℕ) → eqb (step_refusal (open_at s.jobs) (length store) j t b) 0 ≡ f
-      → Spent s.jobs (cond f (stepped_as s j (moved_of s j t store) (moved_of s j t store).ending) (called s (O.Refused (step_refusal (open_at s.jobs) (length store) j t b))))
-  by_refusal true j b e q =
-      omega (arith, by_note (get_or ns j unnoted) j b (h.each j) (eqb-true _ 0 e), one_step j (moved_of s j t store) (moved_of s j t store).ending)
-  by_refusal false j b e q = omega arith
+  by_refusal : (f : Option Refusal) (j : ℕ) (b : List ℕ) → step_refusal (open_at s.jobs) (length store) j t b ≡ f
+      → Spent s.jobs (unless_refused s f (stepped_as s j (moved_of s j t store) (moved_of s j t store).ending))
+  by_refusal None j b e q =
+      omega (arith, by_note (get_or ns j unnoted) j b (h.each j) e, one_step j (moved_of s j t store) (moved_of s j t store).ending)
+  by_refusal (Some r) j b e q = omega arith
 
   step_spent : (j : ℕ) (b : List ℕ) → Spent s.jobs (step_called s j t b store)
   unfolding step_called
-  step_spent j b = by_refusal (eqb (step_refusal (open_at s.jobs) (length store) j t b) 0) j b refl
+  step_spent j b = by_refusal (step_refusal (open_at s.jobs) (length store) j t b) j b refl
 
 -- ---- the others, where they change nothing
 
 module _ (s : D.Scheduler) where
-  by_open : (f d : Bool) (r x n : ℕ) (j : B.Job) → Spent s.jobs (cond f (cond d (called (with_job s x j) (O.Opened x)) (called s (O.Discarded n))) (called s (O.Refused r)))
-  by_open true true r x n j q = absurd (false≢true q)
-  by_open true false r x n j q = omega arith
-  by_open false d r x n j q = omega arith
+  by_open : (f : Option Refusal) (d : Option Discard) (p : List ℕ) (clock : ℕ) → Spent s.jobs (unless_refused s f (opened_as s p clock d))
+  by_open None None p clock q = absurd (false≢true q)
+  by_open None (Some d) p clock q = omega arith
+  by_open (Some r) d p clock q = omega arith
 
-  by_drop : (f : Bool) (r j : ℕ) → Spent s.jobs (cond f (called (with_job s j free_job) O.Dropped) (called s (O.Refused r)))
-  by_drop true r j q = absurd (false≢true q)
-  by_drop false r j q = omega arith
+  by_drop : (f : Option Refusal) (j : ℕ) → Spent s.jobs (unless_refused s f (called (with_job s j free_job) O.Dropped))
+  by_drop None j q = absurd (false≢true q)
+  by_drop (Some r) j q = omega arith
 
-  by_start : (v : I.Inserted) → Spent s.jobs (started_as s v)
-  by_start (Slot k) q = absurd (false≢true q)
-  by_start (NotInserted n) q = omega arith
+  by_start : (v : Result ℕ Refusal) → Spent s.jobs (started_as s v)
+  by_start (Ok k) q = absurd (false≢true q)
+  by_start (Err r) q = omega arith
 
-  by_end : (v : X.Removed) → Spent s.jobs (ended_as s v)
-  by_end Gone q = absurd (false≢true q)
-  by_end (NotRemoved n) q = omega arith
+  by_end : (v : Result (Unit {0}) Refusal) → Spent s.jobs (ended_as s v)
+  by_end (Ok x) q = absurd (false≢true q)
+  by_end (Err r) q = omega arith
 
 call_spent : (c : Call) (w : World) (ns : List Note) → Tied w ns → quiet_by (call c w).out.outcome ≡ true
     → potential (call c w).world.scheduler.jobs + counts_by (call c w).out.outcome ≤ potential w.scheduler.jobs
 unfolding call open_called drop_called start_called end_called
-call_spent (Open p clock) w ns h =
-    by_open w.scheduler (eqb (open_refusal (open_at w.scheduler.jobs) (length w.store)) 0) (eqb (form_of p) 0) (open_refusal (open_at w.scheduler.jobs) (length w.store))
-    (lowest_free (open_at w.scheduler.jobs)) (form_of p) (first_job (length_of p) clock)
+call_spent (Open p clock) w ns h = by_open w.scheduler (open_refusal (open_at w.scheduler.jobs) (length w.store)) (form_of p) p clock
 call_spent (Step j b) w ns h = step_spent w.scheduler w.table w.store ns h j b
-call_spent (Drop j) w ns h = by_drop w.scheduler (eqb (drop_refusal (open_at w.scheduler.jobs) j) 0) (drop_refusal (open_at w.scheduler.jobs) j) j
+call_spent (Drop j) w ns h = by_drop w.scheduler (drop_refusal (open_at w.scheduler.jobs) j) j
 call_spent (Start x) w ns h = by_start w.scheduler (insert_answer x w.table)
 call_spent (End k) w ns h = by_end w.scheduler (remove_answer k w.table)
 

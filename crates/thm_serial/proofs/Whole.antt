@@ -26,7 +26,8 @@ pub record Same (d : Ran) (k : SerialRan) : Type 0 where
   pub serial_is : k.serial ≡ serial_of d.world notes
   pub tied : Tied d.world notes
 
-pub runs : (cs : List Call) (n : ℕ) (w : World) (ns : List Note) → length w.store ≡ n → Tied w ns → Same (run cs w) (serial_run cs (map finished (run cs w).outs) n (serial_of w ns))
+pub runs : (cs : List Call) (n : ℕ) (w : World) (ns : List Note) → length w.store ≡ n → Tied w ns
+    → Same (run cs w) (serial_run cs (map finished (run cs w).outs) n (serial_of w ns))
 unfolding run serial_run
 runs [] n w ns z h = record { outs_are = refl; notes = ns; serial_is = refl; tied = h }
 runs (c ∷ cs) n w ns z h =
@@ -45,7 +46,8 @@ run-after (c ∷ cs) ds w = run-after cs ds (call c w).world
 made : (s : D.Scheduler) → Ours s → Made (settings_of s)
 unfolding bad_secret bad_nas_id
 made s o =
-    let k : length (take s.secret_size s.secret) ≡ s.secret_size = length-take-le s.secret_size s.secret (omega (arith, o.secret_high, o.secret_room)) in
+    let k : length (take s.secret_size s.secret) ≡ s.secret_size =
+    length-take-le s.secret_size s.secret (omega (arith, o.secret_high, o.secret_room)) in
     let n : length (take s.nas_id_size s.nas_id) ≡ s.nas_id_size = length-take-le s.nas_id_size s.nas_id (omega (arith, o.name_high, o.name_room)) in
     record {
       secret_good = rw (k, ne_eqb s.secret_size 0 (λ e. omega (arith, o.secret_low)), le-ltb 64 s.secret_size o.secret_high);

@@ -1,7 +1,7 @@
 -- Demand 3, as one record: for every list of calls on a newly made scheduler, the answers, the reply buffers and the table are those of the serial
 -- execution (`Serial.antt`), and all open requests are finished by the 912th further step that is not refused.
 -- Assumes nothing.
-use Rattle.std.specs.Prelude.{Bool, true, false, ◌&&◌, List, [], ◌∷◌, ◌++◌, map, ◌≡◌, ℕ, ◌+◌, ◌≤◌, length, replicate}
+use Rattle.std.specs.Prelude.{Bool, true, false, ◌&&◌, List, [], ◌∷◌, ◌++◌, map, ◌≡◌, ℕ, ◌+◌, ◌≤◌, length, replicate, None}
 use Rattle.nas_settings.specs.Settings.{Settings}
 use Rattle.sched_job.specs.Job.{free_job}
 use Rattle.sched_state.specs.declared.Scheduler as D
@@ -15,7 +15,7 @@ use Rattle.thm_serial.specs.Serial.{SerialRan, noted_at, at_first, serial_run}
 
 -- of an answer only whether a step finished
 abbrev pub finished_by : O.Outcome → Bool
-finished_by (Refused n) = false
+finished_by (Refused r) = false
 finished_by (Discarded d) = false
 finished_by (Opened j) = false
 finished_by Going = false
@@ -29,7 +29,7 @@ finished o = finished_by o.outcome
 
 -- nothing was opened, dropped, started or ended
 abbrev pub quiet_by : O.Outcome → Bool
-quiet_by (Refused n) = true
+quiet_by (Refused r) = true
 quiet_by (Discarded d) = true
 quiet_by (Opened j) = false
 quiet_by Going = true
@@ -44,7 +44,7 @@ quiet (o ∷ os) = quiet_by o.outcome && quiet os
 
 -- the steps that were not refused
 abbrev pub counts_by : O.Outcome → ℕ
-counts_by (Refused n) = 0
+counts_by (Refused r) = 0
 counts_by (Discarded d) = 0
 counts_by (Opened j) = 0
 counts_by Going = 1
@@ -80,7 +80,7 @@ pub record New (s : D.Scheduler) : Type 0 where
 
 pub record Demand3 : Type 0 where
   -- what making gives, where it does not refuse, is newly made, and holds what it was made with
-  pub made : (g : Settings) → make_refusal g ≡ 0 → New (made_of g) × (settings_of (made_of g) ≡ g)
+  pub made : (g : Settings) → make_refusal g ≡ None → New (made_of g) × (settings_of (made_of g) ≡ g)
   -- every answer along the way and every step's reply buffer
   pub answers : (s : D.Scheduler) → New s → (cs : List Call) (t store : List ℕ) → (run cs (world s t store)).outs ≡ (serially cs s t store).outs
   -- after the list the table

@@ -2,13 +2,11 @@
 -- the packet and clock of its opening. It is told a call's arguments, the store's length, and of a step whether it finished; of scheduler, caller's
 -- table and store bytes nothing.
 -- Assumes nothing.
-use Rattle.std.specs.Prelude.{Bool, true, false, cond, List, [], ◌∷◌, ℕ, eqb, get_or, set, replicate}
+use Rattle.std.specs.Prelude.{Bool, true, false, cond, List, [], ◌∷◌, ℕ, get_or, set, replicate, Option, Some, None, Result, Ok, Err}
+use Rattle.refusals.specs.declared.Refusal.{Refusal}
+use Rattle.refusals.specs.declared.Discard.{Discard}
 use Rattle.nas_settings.specs.Settings.{Settings}
 use Rattle.packet_form.specs.Discards.{form_of}
-use Rattle.table_sessions.specs.declared.Inserted as I
-use Rattle.table_sessions.specs.declared.Inserted.TheVariants.{Slot, NotInserted}
-use Rattle.table_sessions.specs.declared.Removed as X
-use Rattle.table_sessions.specs.declared.Removed.TheVariants.{Gone, NotRemoved}
 use Rattle.table_sessions.specs.Session.{insert_answer, insert_table, remove_answer, remove_table}
 use Rattle.das_handle.specs.Handle.{handle_answer, handle_table, handle_reply}
 use Rattle.sched_state.specs.declared.Outcome as O
@@ -52,14 +50,19 @@ with_table s t = record { settings = s.settings; table = t; notes = s.notes }
 abbrev pub with_note : Serial → ℕ → Note → Serial
 with_note s j n = record { settings = s.settings; table = s.table; notes = set s.notes j n }
 
--- opening answers D1 to D3, or notes packet and clock at the lowest free number and answers that number
+-- a refusal comes before what the call does, d, and changes nothing; b is the call's reply buffer
+abbrev pub serial_unless_refused : List ℕ → Serial → Option Refusal → SerialDid → SerialDid
+serial_unless_refused b s (Some r) d = serial_did (Refused r) b s
+serial_unless_refused b s None d = d
+
+-- opening answers D1 to D3, or notes packet and clock at the lowest free number j and answers that number
+abbrev pub serial_opened_as : List ℕ → ℕ → ℕ → Serial → Option Discard → SerialDid
+serial_opened_as p clock j s (Some d) = serial_did (Discarded d) [] s
+serial_opened_as p clock j s None = serial_did (Opened j) [] (with_note s j (noted p clock))
+
 unfoldable pub serial_open : List ℕ → ℕ → ℕ → Serial → SerialDid
 serial_open p clock size s =
-    cond (eqb (open_refusal (noted_at s.notes) size) 0)
-    (cond (eqb (form_of p) 0)
-    (serial_did (Opened (lowest_free (noted_at s.notes))) [] (with_note s (lowest_free (noted_at s.notes)) (noted p clock)))
-    (serial_did (Discarded (form_of p)) [] s))
-    (serial_did (Refused (open_refusal (noted_at s.notes) size)) [] s)
+    serial_unless_refused [] s (open_refusal (noted_at s.notes) size) (serial_opened_as p clock (lowest_free (noted_at s.notes)) s (form_of p))
 
 -- a step that finished handles the noted packet whole and strikes the note
 abbrev pub handled : Note → ℕ → List ℕ → Serial → SerialDid
@@ -72,25 +75,21 @@ handled (noted p clock) j b s =
 -- a step neither refused nor finished changes nothing and answers only that it did not finish
 unfoldable pub serial_step : ℕ → List ℕ → Bool → ℕ → Serial → SerialDid
 serial_step j b finished size s =
-    cond (eqb (step_refusal (noted_at s.notes) size j s.table b) 0)
+    serial_unless_refused b s (step_refusal (noted_at s.notes) size j s.table b)
     (cond finished (handled (note_at s.notes j) j b s) (serial_did Going b s))
-    (serial_did (Refused (step_refusal (noted_at s.notes) size j s.table b)) b s)
 
 -- drop strikes the note
 unfoldable pub serial_drop : ℕ → Serial → SerialDid
-serial_drop j s =
-    cond (eqb (drop_refusal (noted_at s.notes) j) 0)
-    (serial_did Dropped [] (with_note s j unnoted))
-    (serial_did (Refused (drop_refusal (noted_at s.notes) j)) [] s)
+serial_drop j s = serial_unless_refused [] s (drop_refusal (noted_at s.notes) j) (serial_did Dropped [] (with_note s j unnoted))
 
 -- start and end act on its table
-abbrev pub start_outcome : I.Inserted → O.Outcome
-start_outcome (Slot k) = Started k
-start_outcome (NotInserted n) = Refused n
+abbrev pub start_outcome : Result ℕ Refusal → O.Outcome
+start_outcome (Ok k) = Started k
+start_outcome (Err r) = Refused r
 
-abbrev pub end_outcome : X.Removed → O.Outcome
-end_outcome Gone = Ended
-end_outcome (NotRemoved n) = Refused n
+abbrev pub end_outcome : Result (Unit {0}) Refusal → O.Outcome
+end_outcome (Ok x) = Ended
+end_outcome (Err r) = Refused r
 
 unfoldable pub serial_call : Call → Bool → ℕ → Serial → SerialDid
 serial_call (Open p clock) finished size s = serial_open p clock size s

@@ -12,7 +12,7 @@ use Rattle.sched_state.specs.Calls.{is_ack}
 
 -- a step finished, with an answer of which f holds
 abbrev pub done_with : (A'.Answer → Bool) → O.Outcome → Bool
-done_with f (Refused n) = false
+done_with f (Refused r) = false
 done_with f (Discarded d) = false
 done_with f (Opened j) = false
 done_with f Going = false
