@@ -1,4 +1,4 @@
--- Words held as four numbers are the state they were taken from, so a block is hashed and a digest is compared as with the state.
+-- A digest is compared whole: it has sixteen bytes.
 -- Assumes nothing.
 use mathlib.Core.Path.{◌≡◌, ap, ◌∙◌}
 use mathlib.Core.Bool.{Bool}
@@ -8,12 +8,8 @@ use Rattle.octet_numbers.specs.Runs.{part, equal_bytes}
 use Rattle.md5_ops.specs.declared.State.{State}
 use Rattle.md5_ops.specs.Md5.{output}
 use Rattle.md5_ops.proofs.After.{length-output}
-use Rattle.packet_blocks.specs.Block.{hashed}
 use Rattle.packet_auth.proofs.Pieces.{compared}
-use Rattle.packet_words.specs.Words.{words_of, hash_state, words_signed}
-
-pub words_after : (w v p secret : List ℕ) (k n : ℕ) (before after : State) → before ≡ hash_state w → after ≡ hashed before k p n secret → v ≡ words_of after → v ≡ words_of (hashed (hash_state w) k p n secret)
-words_after w v p secret k n before after e h i = i ∙ ap words_of (h ∙ rw e)
+use Rattle.packet_words.specs.Words.{hash_state, words_signed}
 
 pub words_signed_lem : (w q d : List ℕ) (s : State) (r : Bool) → s ≡ hash_state w → d ≡ output s → r ≡ equal_bytes (part 4 16 q) (part 0 16 d) → r ≡ words_signed w q
 unfolding words_signed

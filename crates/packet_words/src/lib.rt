@@ -5,18 +5,16 @@ ghost use Rattle.std.specs.Prelude.{◌≡◌, ◌+◌, ◌≤◌, ◌<◌, leng
 ghost use Rattle.packet_blocks.specs.Block.{block_count, hashed};
 ghost use Rattle.packet_words.specs.Words.{words_of, hash_state, words_signed};
 
-fn state_of(words: [u32; 4]) -> md5_ops::State
+use md5_ops::State;
+
+fn state_of(words: [u32; 4]) -> State
     ensures { result ≡ hash_state words }
 {
-    md5_ops::State {
-        a: words[0],
-        b: words[1],
-        c: words[2],
-        d: words[3],
-    }
+    let [a, b, c, d] = words;
+    State { a, b, c, d }
 }
 
-pub fn words_of(x: md5_ops::State) -> [u32; 4]
+pub fn words_of(x: State) -> [u32; 4]
     ensures { result ≡ words_of x }
 {
     [x.a, x.b, x.c, x.d]

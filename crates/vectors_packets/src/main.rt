@@ -4,6 +4,7 @@
 mod stored; // stored.rt: the packets
 
 use das_answer::Answer;
+use nas_settings::Gate;
 use std::io;
 use table_records::Session;
 
@@ -17,12 +18,12 @@ fn hex<W: io::Write>(out: &mut W, s: &[u8]) -> io::Result<()> {
 // Writes what an answer tells, and gives the length of the reply.
 fn told<W: io::Write>(out: &mut W, answer: Answer) -> io::Result<usize> {
     match answer {
-        Answer::Refused(n) => {
-            write!(out, " answer {n}")?;
+        Answer::Refused(refusal) => {
+            write!(out, " answer {}", u32::from(refusal))?;
             Ok(0)
         }
-        Answer::Discarded(n) => {
-            write!(out, " answer {}", 100 + u64::from(n))?;
+        Answer::Discarded(discard) => {
+            write!(out, " answer {}", 100 + u32::from(discard))?;
             Ok(0)
         }
         Answer::Stale(skew) => {
@@ -94,12 +95,13 @@ pub fn run<W: io::Write>(out: &mut W, name: &[u8], packet: &[u8]) -> io::Result<
     let mut t = table();
     let mut reply = [0u8; 4096];
     out.write_all(name)?;
-    let n = told(
-        out,
-        das_handle::handle(
-            &mut t, b"xyzzy", 0xc0000207, b"g", &mut reply, packet, 1700000000,
-        ),
-    )?;
+    let gate = Gate {
+        secret: b"xyzzy",
+        nas_ip: 0xc0000207,
+        nas_id: b"g",
+    };
+    let answer = das_handle::handle(&mut t, &gate, &mut reply, packet, 1700000000);
+    let n = told(out, answer)?;
     if n > 0 {
         write!(out, " reply ")?;
         hex(out, octet_runs::slice(&reply, 0, n))?;
