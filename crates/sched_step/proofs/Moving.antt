@@ -7,7 +7,7 @@ use Prim.Native.Nat.{ℕ, ◌*◌, ◌<◌}
 use native.Mathlib.Omega.{arith}
 use lib.ListN.{length, set}
 use Rattle.octet_numbers.proofs.Part.{length_part}
-use Rattle.nas_settings.specs.Settings.{settings}
+use Rattle.nas_settings.specs.Settings.{Settings}
 use Rattle.sched_job.specs.declared.Job as B
 use Rattle.sched_job.specs.declared.Moved as M
 use Rattle.sched_job.specs.Job.{JobOurs}
@@ -20,16 +20,15 @@ use Rattle.sched_step.specs.Moved.{rows_moved, ack_by, places_after, marks_after
 
 -- ---- read
 
-module _ (secret : List ℕ) (ws ks ps ms : List (List ℕ)) (j : ℕ) (b : B.Job) (is : b ≡ job_at (jobs_in (length secret) ws ks ps ms) j) where
-  pub job_fits : JobOurs (length secret) b
-  job_fits = rw is (each_ours (length secret) ws ks ps ms j)
+module _ (g : Settings) (ws ks ps ms : List (List ℕ)) (j : ℕ) (b : B.Job) (is : b ≡ job_at (jobs_in (length g.secret) ws ks ps ms) j) where
+  pub job_fits : JobOurs (length g.secret) b
+  job_fits = rw is (each_ours (length g.secret) ws ks ps ms j)
 
-  module _ (nas_ip : ℕ) (nas_id q t : List ℕ) where
-    pub read_moved : (m : M.Moved) → m ≡ moved (settings secret nas_ip nas_id) b q t → m ≡ rows_moved secret nas_ip nas_id ws ks ps ms j q t
+  module _ (q t : List ℕ) where
+    pub read_moved : (m : M.Moved) → m ≡ moved g b q t → m ≡ rows_moved g ws ks ps ms j q t
     read_moved m e = e ∙ rw is
 
-    pub read_table : (u : List ℕ) → u ≡ moved_table (settings secret nas_ip nas_id) b q t
-        → u ≡ moved_table (settings secret nas_ip nas_id) (job_at (jobs_in (length secret) ws ks ps ms) j) q t
+    pub read_table : (u : List ℕ) → u ≡ moved_table g b q t → u ≡ moved_table g (job_at (jobs_in (length g.secret) ws ks ps ms) j) q t
     read_table u e = e ∙ rw is
 
 pub part_long : (j : ℕ) (q store : List ℕ) → q ≡ part_of j store → j < 4 → length store ≡ 16384 → length q ≡ 4096

@@ -4,22 +4,22 @@ use mathlib.Core.Path.{◌≡◌, ap, ◌∙◌}
 use mathlib.Core.List.{List}
 use Prim.Native.Nat.{ℕ}
 use lib.ListN.{length, set}
-use Rattle.nas_settings.specs.Settings.{settings}
+use Rattle.nas_settings.specs.Settings.{Settings}
 use Rattle.sched_job.specs.declared.Moved as M
 use Rattle.sched_job.specs.Moves.{moved_table, reply_after}
 use Rattle.sched_state.specs.Scheduler.{job_at, part_of}
 use Rattle.sched_rows.specs.Layout.{kind_row, jobs_in}
 use Rattle.sched_step.specs.Moved.{rows_moved, places_after, marks_after}
 
-module _ (secret : List ℕ) (nas_ip : ℕ) (nas_id : List ℕ) (ws ks ps ms : List (List ℕ)) (j : ℕ) (q t store : List ℕ) (part : q ≡ part_of j store) where
-  pub part_table : (u : List ℕ) → u ≡ moved_table (settings secret nas_ip nas_id) (job_at (jobs_in (length secret) ws ks ps ms) j) q t
-      → u ≡ moved_table (settings secret nas_ip nas_id) (job_at (jobs_in (length secret) ws ks ps ms) j) (part_of j store) t
+module _ (g : Settings) (ws ks ps ms : List (List ℕ)) (j : ℕ) (q t store : List ℕ) (part : q ≡ part_of j store) where
+  pub part_table : (u : List ℕ) → u ≡ moved_table g (job_at (jobs_in (length g.secret) ws ks ps ms) j) q t
+      → u ≡ moved_table g (job_at (jobs_in (length g.secret) ws ks ps ms) j) (part_of j store) t
   part_table u is = rw (← part) is
 
   abbrev whole : M.Moved
-  whole = rows_moved secret nas_ip nas_id ws ks ps ms j (part_of j store) t
+  whole = rows_moved g ws ks ps ms j (part_of j store) t
 
-  module _ (m : M.Moved) (is : m ≡ rows_moved secret nas_ip nas_id ws ks ps ms j q t) where
+  module _ (m : M.Moved) (is : m ≡ rows_moved g ws ks ps ms j q t) where
     same : m ≡ whole
     same = rw (← part) is
 
@@ -38,5 +38,5 @@ module _ (secret : List ℕ) (nas_ip : ℕ) (nas_id : List ℕ) (ws ks ps ms : L
     pub part_marks : (l : List (List ℕ)) → l ≡ marks_after m j ks ms → l ≡ marks_after whole j ks ms
     part_marks l e = e ∙ ap (λ (x : M.Moved). marks_after x j ks ms) same
 
-    pub part_reply : (b u : List ℕ) → u ≡ reply_after secret q b m.ending → u ≡ reply_after secret (part_of j store) b whole.ending
-    part_reply b u e = e ∙ ap (λ (x : List ℕ). reply_after secret x b m.ending) part ∙ ap (λ (x : M.Moved). reply_after secret (part_of j store) b x.ending) same
+    pub part_reply : (b u : List ℕ) → u ≡ reply_after g.secret q b m.ending → u ≡ reply_after g.secret (part_of j store) b whole.ending
+    part_reply b u e = e ∙ ap (λ (x : List ℕ). reply_after g.secret x b m.ending) part ∙ ap (λ (x : M.Moved). reply_after g.secret (part_of j store) b x.ending) same
