@@ -1,4 +1,5 @@
-// Exports for tests and benchmarks of the signatures and of the verdict, apart from the product's C library. A refused call answers 1 and writes nothing.
+// Exports for tests and benchmarks of the signatures and of the verdict, apart from the product's C library.
+// A refused call answers 1 and writes nothing.
 #![tactic(auto)]
 
 mod verdict; // verdict.rt: the verdict on a request, in numbers
