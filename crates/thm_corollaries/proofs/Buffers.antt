@@ -56,7 +56,8 @@ output secret out d h =
     let l = O.length_request secret d in
     let short : length (request_of secret d) ≤ length out = omega (arith, written_short secret out d h, (taken secret out d h).room) in
     ap unpadded (demand2.written secret out d h).1
-    ∙ at_start out (request_of secret d) (form_good (request_of secret d) (written_form secret out d h)) (sym (l ∙ (O.sized secret out d h).is)) short
+    ∙ at_start out (request_of secret d) (form_good (request_of secret d) (written_form secret out d h))
+    (sym (l ∙ (O.sized secret out d h).is)) short
 
 module _ (g : Settings) (t b p : List ℕ) (clock : ℕ) (answered : silent (handle_answer g t b p clock) ≡ false) where
   reply_alone : (c : Option Cause) → unpadded (write b 0 (reply_of g.secret p c)) ≡ reply_of g.secret p c

@@ -38,11 +38,13 @@ module _ (b p : List ℕ) (clock : ℕ) where
   told None false j s = tt
   told (Some r) done j s = tt
 
-  call-told : (done : Bool) (size j : ℕ) (s : Serial) → note_at s.notes j ≡ noted p clock → Told s.settings s.table (serial_call (Step j b) done size s).out
+  call-told : (done : Bool) (size j : ℕ) (s : Serial) → note_at s.notes j ≡ noted p clock
+      → Told s.settings s.table (serial_call (Step j b) done size s).out
   unfolding serial_call serial_step
   call-told done size j s e = rw e (told (step_refusal (noted_at s.notes) size j s.table b) done j s)
 
-  module _ (s : D.Scheduler) (new : New s) (cs : List Call) (t store : List ℕ) (j : ℕ) (note : note_at (serially cs s t store).serial.notes j ≡ noted p clock) where
+  module _ (s : D.Scheduler) (new : New s) (cs : List Call) (t store : List ℕ) (j : ℕ)
+      (note : note_at (serially cs s t store).serial.notes j ≡ noted p clock) where
     abbrev left : World
     left = (run cs (world s t store)).world
 
@@ -53,7 +55,8 @@ module _ (b p : List ℕ) (clock : ℕ) where
         subst (Told (settings_of left.scheduler) left.table) (sym (call_agrees (Step j b) left r.notes r.tied).out_is)
         (call-told (finished (call (Step j b) left).out) (length left.store) j (serial_of left r.notes) here)
 
-    pub step_handles : (a : Answer) → (call (Step j b) left).out.outcome ≡ O.Done a → Handled (settings_of s) left.table (call (Step j b) left).out.reply a
+    pub step_handles : (a : Answer) → (call (Step j b) left).out.outcome ≡ O.Done a
+        → Handled (settings_of s) left.table (call (Step j b) left).out.reply a
     step_handles a e =
         subst (λ (g : Settings). Handled g left.table (call (Step j b) left).out.reply a) (settings_kept s new cs t store)
         (subst (WhenDone (Handled (settings_of left.scheduler) left.table (call (Step j b) left).out.reply)) e step-told)

@@ -14,11 +14,14 @@ use Rattle.das_answer.specs.Replied.{silent}
 use Rattle.thm_demands.proofs.Second.{demand2}
 use Rattle.thm_corollaries.specs.Corollaries.{Passes}
 
-pub answer_passes : (g : Settings) (t b p : List ℕ) (clock : ℕ) (a : Answer) → handle_answer g t b p clock ≡ a → silent a ≡ false → Passes g.secret p b (handle_reply g t b p clock)
+pub answer_passes : (g : Settings) (t b p : List ℕ) (clock : ℕ) (a : Answer)
+    → handle_answer g t b p clock ≡ a → silent a ≡ false → Passes g.secret p b (handle_reply g t b p clock)
 answer_passes g t b p clock (A.Refused r) e h = absurd (true≢false h)
 answer_passes g t b p clock (A.Discarded d) e h = absurd (true≢false h)
 answer_passes g t b p clock (A.Stale k) e h = absurd (true≢false h)
 answer_passes g t b p clock (A.Nak c k n) e h =
-    record { cause = Some c; written = (demand2.judging g t b p clock).nak_reply c k n e; right = ((demand2.judging g t b p clock).carries (ap silent e ∙ h) (Some c)).passes }
+    let d = demand2.judging g t b p clock in
+    record { cause = Some c; written = d.nak_reply c k n e; right = (d.carries (ap silent e ∙ h) (Some c)).passes }
 answer_passes g t b p clock (A.Ack m k n) e h =
-    record { cause = None; written = (demand2.judging g t b p clock).ack_reply m k n e; right = ((demand2.judging g t b p clock).carries (ap silent e ∙ h) None).passes }
+    let d = demand2.judging g t b p clock in
+    record { cause = None; written = d.ack_reply m k n e; right = (d.carries (ap silent e ∙ h) None).passes }

@@ -14,7 +14,8 @@ use Rattle.sched_state.specs.declared.Scheduler as D
 use Rattle.sched_state.specs.Scheduler.{settings_of, lowest_free}
 use Rattle.sched_state.specs.Refusals.{open_refusal, step_refusal, drop_refusal}
 use Rattle.sched_state.specs.Runs.{Call, Open, Step, Drop, Start, End, run}
-use Rattle.thm_serial.specs.Serial.{Note, unnoted, noted, note_at, noted_at, Serial, SerialDid, serial_unless_refused, handled, serial_opened_as, serial_open, serial_step, serial_drop, serial_call, at_first, serial_run}
+use Rattle.thm_serial.specs.Serial.{Note, unnoted, noted, note_at, noted_at, Serial, SerialDid, serial_unless_refused, handled, serial_opened_as}
+use Rattle.thm_serial.specs.Serial.{serial_open, serial_step, serial_drop, serial_call, at_first, serial_run}
 use Rattle.thm_serial.specs.Demand3.{finished, world, serially, New}
 use Rattle.thm_serial.proofs.Whole.{whole}
 
@@ -43,7 +44,8 @@ unfolding serial_call serial_open serial_step serial_drop
 call_keeps (Open p clock) f size s =
     unless_keeps [] s (open_refusal (noted_at s.notes) size) _ (opened_keeps p clock (lowest_free (noted_at s.notes)) s (form_of p))
 call_keeps (Step j b) f size s =
-    unless_keeps b s (step_refusal (noted_at s.notes) size j s.table b) _ (either _ f _ _ (handled_keeps (note_at s.notes j) j b s) (record { same = refl }))
+    unless_keeps b s (step_refusal (noted_at s.notes) size j s.table b) _
+    (either _ f _ _ (handled_keeps (note_at s.notes j) j b s) (record { same = refl }))
 call_keeps (Drop j) f size s = unless_keeps [] s (drop_refusal (noted_at s.notes) j) _ (record { same = refl })
 call_keeps (Start x) f size s = record { same = refl }
 call_keeps (End k) f size s = record { same = refl }
@@ -54,7 +56,8 @@ run_keeps [] fs size s = refl
 run_keeps (c ∷ cs) [] size s = refl
 run_keeps (c ∷ cs) (f ∷ fs) size s = run_keeps cs fs size (serial_call c f size s).serial ∙ (call_keeps c f size s).same
 
-pub settings_kept : (s : D.Scheduler) → New s → (cs : List Call) (t store : List ℕ) → settings_of (run cs (world s t store)).world.scheduler ≡ settings_of s
+pub settings_kept : (s : D.Scheduler) → New s → (cs : List Call) (t store : List ℕ)
+    → settings_of (run cs (world s t store)).world.scheduler ≡ settings_of s
 unfolding serially
 settings_kept s new cs t store =
     sym (ap (λ (x : Serial). x.settings) (whole s new cs t store).serial_is)

@@ -61,7 +61,8 @@ module _ (g : Settings) (p : List ℕ) (clock : ℕ) where
   by_signs f s m = rw (f, s, m) (by_stamp (stamp_of (area_of p)))
 
 -- a packet of good form is refused or opened
-not_discarded : (s : S.Scheduler) (p : List ℕ) (clock : ℕ) (r : Option Refusal) (d : Discard) → (unless_refused s r (opened_as s p clock None)).outcome ≡ O.Discarded d → ⊥
+not_discarded : (s : S.Scheduler) (p : List ℕ) (clock : ℕ) (r : Option Refusal) (d : Discard)
+    → (unless_refused s r (opened_as s p clock None)).outcome ≡ O.Discarded d → ⊥
 not_discarded s p clock None d e = cc
 not_discarded s p clock (Some r) d e = cc
 

@@ -54,7 +54,8 @@ followed x b t store cs =
 
 -- x, t, b and store are what a call gives back; the premises are its contract
 pub record Chained (w : World) (cs : List Call) : Type 0 where
-  pub opening : (p : List ℕ) (clock : ℕ) (x : C.Called) (store : List ℕ) → x ≡ open_called w.scheduler p clock w.store → store ≡ open_store w.scheduler p w.store
+  pub opening : (p : List ℕ) (clock : ℕ) (x : C.Called) (store : List ℕ)
+      → x ≡ open_called w.scheduler p clock w.store → store ≡ open_store w.scheduler p w.store
       → run (Open p clock ∷ cs) w ≡ followed x [] w.table store cs
   pub stepping : (j : ℕ) (before : List ℕ) (x : C.Called) (t b : List ℕ) → x ≡ step_called w.scheduler j w.table before w.store
       → t ≡ step_table w.scheduler j w.table before w.store → b ≡ step_reply w.scheduler j w.table before w.store

@@ -47,7 +47,8 @@ GivenBy (Drop j) o e = e.after.told.answer ≡ number_by o
 GivenBy (Start x) o e = (e.after.told.answer ≡ number_by o) × (e.after.place ≡ place_by o e.before.place)
 GivenBy (End k) o e = e.after.told.answer ≡ number_by o
 
--- what `capi` promises of a call: `fbk_open_lent`, `fbk_step_lent`, `fbk_drop_lent`, `fbk_start_lent`, `fbk_end_lent`. What it is not lent stays as it was
+-- what `capi` promises of a call: `fbk_open_lent`, `fbk_step_lent`, `fbk_drop_lent`, `fbk_start_lent`, `fbk_end_lent`. What it is not lent
+-- stays as it was
 abbrev pub Promised : Call → Holds → Event → Type 0
 Promised (Open p clock) h e =
     GivenBy (Open p clock) (open_called (scheduler_in h.held) p clock h.store).outcome e

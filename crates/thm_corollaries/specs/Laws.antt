@@ -44,7 +44,8 @@ pub record Laws : Type 0 where
   -- of the steps only an ACK sends others back to slot 0: one that does not end in ACK leaves every other job
   pub step_others : (j : ℕ) (w : World) (b : List ℕ) → acks (call (Step j b) w).out.outcome ≡ false
       → (i : ℕ) → (i ≡ j → ⊥) → job_at (call (Step j b) w).world.scheduler.jobs i ≡ job_at w.scheduler.jobs i
-  -- "An ACK, a session start and a session end each send every other job in Match or awaiting Commit back to slot 0, marks cleared.": `restarted` leaves any other
+  -- "An ACK, a session start and a session end each send every other job in Match or awaiting Commit back to slot 0, marks cleared.":
+  -- `restarted` leaves any other
   pub ack_restarts : (j : ℕ) (w : World) (b : List ℕ) → acks (call (Step j b) w).out.outcome ≡ true
       → (i : ℕ) → (i ≡ j → ⊥) → job_at (call (Step j b) w).world.scheduler.jobs i ≡ restarted (job_at w.scheduler.jobs i)
   pub start_restarts : (x : Session) (w : World) (k : ℕ) → insert_answer x w.table ≡ Ok k
