@@ -5,47 +5,57 @@ ghost use Rattle.std.specs.Prelude.{◌≡◌, ◌≤◌};
 ghost use Rattle.attr_survey.specs.Noted.{noted_at, seen_at};
 ghost use Rattle.attr_lookup.specs.Lookup.{kept_start, kept_place, kept_size, kept_value};
 
-use attr_survey::Survey;
+use attr_survey::{Noted, Survey};
 
 // Whether the pass met an attribute of this type. Of type 33 it kept nothing.
-pub fn has(survey: &Survey, kind: u8) -> bool
-    ensures { result ≡ seen_at survey.now.noted kind }
+pub fn has(noted: &[Noted; 256], kind: u8) -> bool
+    ensures { result ≡ seen_at noted.now kind }
 {
-    survey.noted[usize::from(kind)].number != 0
+    first_of(noted, kind).number != 0
+}
+
+// What the pass kept of a type.
+pub fn first_of(noted: &[Noted; 256], kind: u8) -> Noted
+    ensures { result ≡ noted_at noted.now kind }
+{
+    noted[usize::from(kind)]
 }
 
 // Where the first of this type ends.
-pub fn end_of(survey: &Survey, kind: u8) -> usize
-    ensures { (result ≡ (noted_at survey.now.noted kind).end) × (result ≤ 65535) }
+pub fn end_of(noted: &[Noted; 256], kind: u8) -> usize
+    ensures { (result ≡ (noted_at noted.now kind).end) × (result ≤ 65535) }
 {
-    usize::from(survey.noted[usize::from(kind)].end)
+    usize::from(first_of(noted, kind).end)
 }
 
 // Where it starts.
-pub fn start_of(survey: &Survey, kind: u8) -> usize
-    ensures { (result ≡ kept_start kind survey.now.noted) × (result ≤ 65535) }
+pub fn start_of(noted: &[Noted; 256], kind: u8) -> usize
+    ensures { (result ≡ kept_start kind noted.now) × (result ≤ 65535) }
 {
-    let size = usize::from(survey.noted[usize::from(kind)].size);
-    end_of(survey, kind).saturating_sub(size)
+    end_of(noted, kind).saturating_sub(usize::from(first_of(noted, kind).size))
 }
 
 // Where its value lies.
-pub fn place_of(survey: &Survey, kind: u8) -> usize
-    ensures { result ≡ kept_place kind survey.now.noted }
+pub fn place_of(noted: &[Noted; 256], kind: u8) -> usize
+    ensures { result ≡ kept_place kind noted.now }
 {
-    start_of(survey, kind) + 2
+    start_of(noted, kind) + 2
 }
 
 // How long its value is.
-pub fn size_of(survey: &Survey, kind: u8) -> usize
-    ensures { result ≡ kept_size kind survey.now.noted }
+pub fn size_of(noted: &[Noted; 256], kind: u8) -> usize
+    ensures { result ≡ kept_size kind noted.now }
 {
-    usize::from(survey.noted[usize::from(kind)].size).saturating_sub(2)
+    usize::from(first_of(noted, kind).size).saturating_sub(2)
 }
 
 // Its value; empty where there is none.
 pub fn value_of<'a>(survey: &Survey<'a>, kind: u8) -> &'a [u8]
     ensures { result.now ≡ kept_value survey.now.area.now kind survey.now.noted }
 {
-    octet_runs::slice(survey.area, place_of(survey, kind), size_of(survey, kind))
+    octet_runs::slice(
+        survey.area,
+        place_of(&survey.noted, kind),
+        size_of(&survey.noted, kind),
+    )
 }

@@ -41,7 +41,6 @@ pub struct Survey<'a> {
     pub flags: Flags,
     // For each type but 33, which may repeat.
     pub noted: [Noted; 256],
-    pub ghost flagged: { Flagged area.now code flags },
     pub ghost kept: { Kept area.now noted },
 }
 
@@ -102,6 +101,7 @@ impl<'a> Survey<'a> {
         requires { length area.now ≤ 4096 }
         ensures area_value { result.area.now ≡ area.now }
         ensures code_value { result.code ≡ code }
+        ensures flagged { Flagged area.now code result.flags }
     {
         let mut noted = [NONE; 256];
         let flags = with_vendors(area, code, &mut noted);

@@ -11,7 +11,7 @@ ghost use Rattle.attr_types.specs.Types.{misfitting};
 ghost use Rattle.das_effects.specs.Taken.{taken_criteria};
 ghost use Rattle.das_effects.specs.Changes.{alteration_of, change_of};
 
-use attr_survey::Survey;
+use attr_survey::{Noted, Survey};
 use attr_types::{
     ACCT_SESSION_ID, CALLING_STATION_ID, FILTER_ID, FRAMED_IP_ADDRESS, IDLE_TIMEOUT, NAS_PORT,
     SESSION_TIMEOUT, USER_NAME,
@@ -21,17 +21,17 @@ use table_change::{Alteration, Change};
 use table_criteria::{Criteria, Field};
 use taken::{criterion, number, value_span};
 
-// The criteria of a surveyed request: one for each of 1, 5, 8, 31, 44 that it has.
+// The criteria of a request, from what the pass over its attributes kept: one for each of 1, 5, 8, 31, 44 that it has.
 #[tactic(auto, unfolding(crate::specs::Taken::taken_criteria))]
-pub fn criteria(survey: &Survey) -> Criteria
-    ensures { listed result ≡ taken_criteria survey.now.noted }
+pub fn criteria(noted: &[Noted; 256]) -> Criteria
+    ensures { listed result ≡ taken_criteria noted.now }
 {
     [
-        criterion(survey, Field::UserName, USER_NAME),
-        criterion(survey, Field::NasPort, NAS_PORT),
-        criterion(survey, Field::FramedAddress, FRAMED_IP_ADDRESS),
-        criterion(survey, Field::CallingStation, CALLING_STATION_ID),
-        criterion(survey, Field::SessionId, ACCT_SESSION_ID),
+        criterion(noted, Field::UserName, USER_NAME),
+        criterion(noted, Field::NasPort, NAS_PORT),
+        criterion(noted, Field::FramedAddress, FRAMED_IP_ADDRESS),
+        criterion(noted, Field::CallingStation, CALLING_STATION_ID),
+        criterion(noted, Field::SessionId, ACCT_SESSION_ID),
     ]
 }
 
@@ -44,7 +44,7 @@ fn alteration(survey: &Survey) -> Alteration
     Alteration {
         timeout: number(survey, SESSION_TIMEOUT),
         idle: number(survey, IDLE_TIMEOUT),
-        filter: value_span(survey, FILTER_ID),
+        filter: value_span(&survey.noted, FILTER_ID),
         down,
         up,
     }

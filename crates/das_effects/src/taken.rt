@@ -4,29 +4,29 @@ ghost use Rattle.octet_runs.specs.declared.span.Span.{Span};
 ghost use Rattle.das_effects.specs.Taken.{taken_value, if_there, taken_number};
 
 use attr_lookup::{has, place_of, size_of};
-use attr_survey::Survey;
+use attr_survey::{Noted, Survey};
 use octet_runs::Span;
 use table_criteria::{Criterion, Field};
 
 // Where the value of the first of this type lies.
 #[tactic(auto, unfolding(crate::specs::Taken::taken_value))]
-pub fn value_span(survey: &Survey, kind: u8) -> Option<Span>
-    ensures { result ≡ taken_value kind survey.now.noted }
+pub fn value_span(noted: &[Noted; 256], kind: u8) -> Option<Span>
+    ensures { result ≡ taken_value kind noted.now }
 {
-    if has(survey, kind) {
+    if has(noted, kind) {
         return Some(Span {
-            at: place_of(survey, kind),
-            size: size_of(survey, kind),
+            at: place_of(noted, kind),
+            size: size_of(noted, kind),
         });
     }
     None
 }
 
 // That a field must have this value.
-pub fn criterion(survey: &Survey, field: Field, kind: u8) -> Option<Criterion>
-    ensures { result ≡ if_there field kind survey.now.noted }
+pub fn criterion(noted: &[Noted; 256], field: Field, kind: u8) -> Option<Criterion>
+    ensures { result ≡ if_there field kind noted.now }
 {
-    let value = value_span(survey, kind)?;
+    let value = value_span(noted, kind)?;
     Some(Criterion { field, value })
 }
 
@@ -35,6 +35,6 @@ pub fn number(survey: &Survey, kind: u8) -> Option<u32>
     requires { (v : Span) → taken_value kind survey.now.noted ≡ Some v → v.at + 4 ≤ length survey.now.area.now }
     ensures { result ≡ taken_number survey.now.area.now kind survey.now.noted }
 {
-    let value = value_span(survey, kind)?;
+    let value = value_span(&survey.noted, kind)?;
     Some(octet_numbers::be32(survey.area, value.at))
 }

@@ -1,6 +1,6 @@
 -- Each arm of a judged request is its part of the definition: what ended is the answer, and no ACK, so the table stays; what passed is answered by the commit.
 -- Assumes nothing.
-use mathlib.Core.Path.{◌≡◌, refl, sym, ap, ◌∙◌}
+use mathlib.Core.Path.{◌≡◌, refl, sym, ap, subst, ◌∙◌}
 use mathlib.Core.Bool.{Bool, true, false, true≢false, false≢true}
 use mathlib.Core.List.{List}
 use Prim.Native.Nat.{ℕ, ◌≤◌}
@@ -44,14 +44,17 @@ only_passed p (J.Stale i) k e = absurd (false≢true (ap passes e))
 only_passed p (J.Nak c i) k e = absurd (false≢true (ap passes e))
 only_passed p (J.Passed i) k e = (i, refl)
 
-pub passed_commits : (g : Settings) (q : List ℕ) (clock : ℕ) (x : Result ℤ D.Answer) → x ≡ judged_as q (check_verdict g true q clock) → (k : ℤ) → x ≡ Ok k → (n : ℕ) → Sized q n
+-- p is the packet that was judged, q the same in the request
+pub passed_commits : (g : Settings) (p q : List ℕ) → q ≡ p → (clock : ℕ) (x : Result ℤ D.Answer) → x ≡ judged_as p (check_verdict g true p clock) → (k : ℤ) → x ≡ Ok k → (n : ℕ) → Sized q n
     → Committable q
-passed_commits g q clock x is k e n sized =
-    let v = only_passed q (check_verdict g true q clock) k (sym is ∙ e) in
+passed_commits g p q same clock x is k e n sized =
+    let v = only_passed p (check_verdict g true p clock) k (sym is ∙ e) in
+    let here : Sized p n = subst (λ (l : List ℕ). Sized l n) same sized in
+    rw same
     record {
-      fits = passed_misfit g q clock (check_verdict g true q clock) refl v.0 v.1;
-      once = passed_once g q clock (check_verdict g true q clock) refl v.0 v.1;
-      short = λ c. passed_short g q clock (check_verdict g true q clock) refl n c v.0 v.1 sized;
+      fits = passed_misfit g p clock (check_verdict g true p clock) refl v.0 v.1;
+      once = passed_once g p clock (check_verdict g true p clock) refl v.0 v.1;
+      short = λ c. passed_short g p clock (check_verdict g true p clock) refl n c v.0 v.1 here;
     }
 
 -- the buffer after a judgement is as long as before
@@ -63,31 +66,28 @@ judged_long secret p b (Err (A.Nak c k n)) = length-write b 0 (reply_of secret p
 judged_long secret p b (Err (A.Ack m k n)) = length-write b 0 (reply_of secret p None)
 judged_long secret p b (Ok k) = refl
 
--- ---- from what the judgement x left, to the definition: b is the buffer before it, u after it; q is the packet that was judged
+-- ---- from what the judgement x left, to the definition: b is the buffer before it, u after it
 
-module _ (g : Settings) (p q t b u : List ℕ) (same : q ≡ p) (clock : ℕ) (x : Result ℤ D.Answer) (is : x ≡ judged_as q (check_verdict g true q clock)) (left : u ≡ reply_judged g.secret q b x) where
-  known : x ≡ judged_as p (check_verdict g true p clock)
-  known = is ∙ rw same
-
+module _ (g : Settings) (p t b u : List ℕ) (clock : ℕ) (x : Result ℤ D.Answer) (is : x ≡ judged_as p (check_verdict g true p clock)) (left : u ≡ reply_judged g.secret p b x) where
   -- it ended with an answer
   module _ (a : D.Answer) (e : x ≡ Err a) where
     pub ended_answer : a ≡ answer_of p t (check_verdict g true p clock)
-    ended_answer = ap (answer_as p t) (sym e ∙ known)
+    ended_answer = ap (answer_as p t) (sym e ∙ is)
 
     pub ended_table : t ≡ table_as p t a
-    ended_table = no_ack p t (check_verdict g true p clock) a (sym known ∙ e)
+    ended_table = no_ack p t (check_verdict g true p clock) a (sym is ∙ e)
 
     pub ended_reply : u ≡ reply_as g.secret p b a
-    ended_reply = left ∙ rw (e, same)
+    ended_reply = left ∙ rw e
 
   -- it passed; k' is the skew as the machine holds it
   module _ (k : ℤ) (e : x ≡ Ok k) where
     pub passed_room : 4096 ≤ length b → 4096 ≤ length u
-    passed_room h = rw (left, judged_long g.secret q b x) h
+    passed_room h = rw (left, judged_long g.secret p b x) h
 
-    module _ (k' : ℤ) (i : k' ≡ k) (r : D.Answer) (h : r ≡ count_answer q (match_count (area_of q) t) k') where
+    module _ (q : List ℕ) (same : q ≡ p) (k' : ℤ) (i : k' ≡ k) (r : D.Answer) (h : r ≡ count_answer q (match_count (area_of q) t) k') where
       pub passed_answer : r ≡ answer_of p t (check_verdict g true p clock)
-      passed_answer = h ∙ rw (same, i) (ap (answer_as p t) (sym e ∙ known))
+      passed_answer = h ∙ rw (same, i) (ap (answer_as p t) (sym e ∙ is))
 
       pub passed_table : (w : List ℕ) → w ≡ table_as q t r → w ≡ table_as p t r
       passed_table w o = o ∙ rw same

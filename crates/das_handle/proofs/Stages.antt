@@ -14,12 +14,11 @@ use Rattle.refusals.specs.declared.Refusal.{Refusal}
 use Rattle.refusals.specs.declared.Refusal.TheVariants as R
 use Rattle.refusals.specs.declared.Discard.{Discard}
 use Rattle.refusals.specs.declared.Discard.TheVariants as B
-use Rattle.octet_numbers.specs.Runs.{equal_bytes}
-use Rattle.packet_form.specs.Packet.{length_of, auth_of}
+use Rattle.octet_numbers.specs.Runs.{part, equal_bytes}
 use Rattle.packet_auth.specs.Signing.{zeros, authenticator}
 use Rattle.table_slots.specs.Slot.{slot_count}
 use Rattle.nas_settings.specs.Settings.{Settings, bad_secret, bad_nas_id}
-use Rattle.packet_form.specs.Discards.{form_of}
+use Rattle.packet_form.specs.Discards.{form_of, Sized}
 use Rattle.rule_verdict.specs.Discards.{signed_by}
 use Rattle.rule_verdict.specs.Verdict.{check_verdict, verdict_of}
 use Rattle.rule_verdict.proofs.Verdicts.{judge_form, judge_signed, judge_unsigned}
@@ -101,10 +100,10 @@ module _ (g : Settings) (p t : List ℕ) (clock : ℕ) where
   pub form_answer : (d : Discard) → form_of p ≡ Some d → A.Discarded d ≡ answer_of p t (verdict_of g (signed_by g.secret p) p clock)
   form_answer d h = ap (answer_of p t) (judge_form g p clock d h (signed_by g.secret p))
 
-  module _ (formed : form_of p ≡ None) (q : List ℕ) (same : q ≡ p) (w : Bool) (compared : w ≡ equal_bytes (auth_of q) (authenticator zeros q (length_of q) g.secret)) where
+  module _ (formed : form_of p ≡ None) (q : List ℕ) (same : q ≡ p) (n : ℕ) (sized : Sized q n) (w : Bool) (compared : w ≡ equal_bytes (part 4 16 q) (authenticator zeros q n g.secret)) where
     says : w ≡ signed_by g.secret p
     unfolding signed_by
-    says = compared ∙ rw same
+    says = compared ∙ rw (sized.is, same)
 
     pub unsigned_answer : w ≡ false → A.Discarded B.Authenticator ≡ answer_of p t (verdict_of g (signed_by g.secret p) p clock)
     unsigned_answer h = ap (answer_of p t) (judge_unsigned g p clock formed w says h)

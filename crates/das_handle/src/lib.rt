@@ -44,7 +44,7 @@ fn judged(t: &mut [u8], gate: &Gate, reply: &mut [u8], p: &[u8], clock: u32) -> 
     match packet_form::form(p) {
         Err(d) => Answer::Discarded(d),
         Ok(packet) => {
-            if packet_auth::request_signed(&packet, gate.secret) {
+            if packet_auth::request_signed(packet.bytes, packet.length, gate.secret) {
                 return passed::signed(t, gate, reply, packet, clock);
             }
             Answer::Discarded(Discard::Authenticator)

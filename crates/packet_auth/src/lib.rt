@@ -3,10 +3,7 @@
 
 ghost use Rattle.std.specs.Prelude.{◌≡◌, ◌++◌, ◌≤◌, length, take};
 ghost use Rattle.octet_numbers.specs.Runs.{part, write, equal_bytes};
-ghost use Rattle.packet_form.specs.Packet.{auth_of, length_of};
 ghost use Rattle.packet_auth.specs.Signing.{zeros, authenticator};
-
-use packet_form::Packet;
 
 // What comes before the attributes, with auth in the authenticator's place, at the start of a block.
 pub fn front(buf: &mut [u8; 64], p: &[u8], auth: &[u8; 16])
@@ -40,9 +37,10 @@ pub fn request_authenticator(p: &[u8], n: usize, secret: &[u8]) -> [u8; 16]
 }
 
 // Whether a request holds its authenticator (D4).
-pub fn request_signed(packet: &Packet, secret: &[u8]) -> bool
-    ensures { result ≡ equal_bytes (auth_of packet.now.bytes.now) (authenticator zeros packet.now.bytes.now (length_of packet.now.bytes.now) secret.now) }
+pub fn request_signed(p: &[u8], n: usize, secret: &[u8]) -> bool
+    requires { (20 ≤ n) × (n ≤ length p.now) }
+    ensures { result ≡ equal_bytes (part 4 16 p.now) (authenticator zeros p.now n secret.now) }
 {
-    let d = request_authenticator(packet.bytes, packet.length, secret);
-    octet_runs::equal16(packet.bytes, 4, &d, 0)
+    let d = request_authenticator(p, n, secret);
+    octet_runs::equal16(p, 4, &d, 0)
 }

@@ -10,7 +10,6 @@ ghost use Rattle.packet_mac.specs.Discards.{bad_mac};
 use attr_survey::Survey;
 use attr_types::MESSAGE_AUTHENTICATOR;
 use packet_form::Packet;
-use packet_request::Request;
 
 // The Message-Authenticator whose value stands at place at: auth is zeros for a request, the request's authenticator for a reply.
 pub fn message_authenticator(
@@ -62,9 +61,10 @@ pub fn bad_mac(packet: &Packet, auth: &[u8; 16], secret: &[u8], survey: &Survey)
 }
 
 // D5.
-pub fn bad_request_mac(request: &Request, secret: &[u8]) -> bool
-    ensures { result ≡ bad_mac zeros secret.now request.now.packet.bytes.now }
+pub fn bad_request_mac(packet: &Packet, secret: &[u8], survey: &Survey) -> bool
+    requires { survey.now.area.now ≡ area_of packet.now.bytes.now }
+    ensures { result ≡ bad_mac zeros secret.now packet.now.bytes.now }
 {
     let zeros = [0u8; 16];
-    bad_mac(&request.packet, &zeros, secret, &request.survey)
+    bad_mac(packet, &zeros, secret, survey)
 }

@@ -2,6 +2,7 @@
 #![tactic(auto)]
 
 ghost use Rattle.std.specs.Prelude.{◌≡◌, None};
+ghost use Rattle.attr_survey.specs.Survey.{Flagged};
 ghost use Rattle.packet_form.specs.Packet.{code_of, area_of};
 ghost use Rattle.packet_form.specs.Discards.{form_of};
 
@@ -22,7 +23,8 @@ impl<'a> Request<'a> {
     // The request in a packet that meets none of D1 to D3.
     pub fn of(packet: Packet<'a>) -> Request<'a>
         requires { form_of packet.bytes.now ≡ None }
-        ensures { result.packet ≡ packet.entry }
+        ensures packet_value { result.packet ≡ packet.entry }
+        ensures flagged { Flagged result.survey.area.now result.survey.code result.survey.flags }
     {
         let survey = Survey::of(packet.area(), packet.code());
         Request { packet, survey }

@@ -11,7 +11,7 @@ use attr_types::NAS_IP_ADDRESS;
 pub fn other_value(survey: &Survey, kind: u8, own: &[u8]) -> bool
     ensures { result ≡ differs_at survey.now.area.now survey.now.noted kind own.now }
 {
-    if has(survey, kind) {
+    if has(&survey.noted, kind) {
         return !octet_runs::equal(value_of(survey, kind), own);
     }
     false

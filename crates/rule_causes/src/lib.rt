@@ -2,9 +2,11 @@
 #![tactic(auto)]
 
 ghost use Rattle.std.specs.Prelude.{◌≡◌, false};
+ghost use Rattle.attr_survey.specs.Survey.{Flagged};
 ghost use Rattle.rule_causes.specs.Causes.{cause_of};
 ghost use Rattle.rule_causes.specs.Later.{later_of};
 
+use attr_lookup::first_of;
 use attr_survey::Survey;
 use attr_types::{FILTER_ID, NAS_IDENTIFIER};
 pub use cause::Cause;
@@ -16,7 +18,7 @@ mod checks; // checks.rt: 403 and 402
 
 // The causes after 404: no type but 33 is there twice.
 fn later_cause(survey: &Survey, gate: &Gate) -> Option<Cause>
-    requires { survey.now.flags.repeated ≡ false }
+    requires { Flagged survey.now.area.now survey.now.code survey.now.flags × (survey.now.flags.repeated ≡ false) }
     ensures { result ≡ later_of survey.now.code gate.now.nas_ip gate.now.nas_id.now survey.now.area.now }
 {
     if other_address(survey, gate.nas_ip) {
@@ -28,8 +30,7 @@ fn later_cause(survey: &Survey, gate: &Gate) -> Option<Cause>
     if missing(survey) {
         return Some(Cause::MissingAttribute);
     }
-    // A constant as an index, by a cast: with usize::from the proof did not close.
-    if 34 < survey.noted[FILTER_ID as usize].size {
+    if 34 < first_of(&survey.noted, FILTER_ID).size {
         return Some(Cause::ResourcesUnavailable);
     }
     None
@@ -37,6 +38,7 @@ fn later_cause(survey: &Survey, gate: &Gate) -> Option<Cause>
 
 // The first cause that applies to the surveyed area of a request, at this gate.
 pub fn first_cause(survey: &Survey, gate: &Gate) -> Option<Cause>
+    requires { Flagged survey.now.area.now survey.now.code survey.now.flags }
     ensures { result ≡ cause_of survey.now.code gate.now.nas_ip gate.now.nas_id.now survey.now.area.now }
 {
     let f = survey.flags;

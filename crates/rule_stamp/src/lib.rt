@@ -11,11 +11,11 @@ use attr_types::EVENT_TIMESTAMP;
 pub fn stamp_of(survey: &Survey) -> Option<u32>
     ensures { result ≡ stamp_of survey.now.area.now }
 {
-    // A constant as an index, by a cast: with usize::from the proof did not close.
+    // A constant as an index, by a cast: with usize::from or attr_lookup::first_of the proof did not close.
     let first = survey.noted[EVENT_TIMESTAMP as usize];
     if first.number == 1 {
         if first.size == 6 {
-            let end = attr_lookup::end_of(survey, EVENT_TIMESTAMP);
+            let end = attr_lookup::end_of(&survey.noted, EVENT_TIMESTAMP);
             return Some(octet_numbers::be32(survey.area, end - 4));
         }
         return None;

@@ -1,12 +1,15 @@
 // The verdict on a request before any session is looked at.
 #![tactic(auto)]
 
-ghost use Rattle.std.specs.Prelude.{◌≡◌, true};
+ghost use Rattle.std.specs.Prelude.{◌≡◌};
+ghost use Rattle.attr_survey.specs.Survey.{Flagged};
+ghost use Rattle.packet_form.specs.Packet.{code_of, area_of};
 ghost use Rattle.nas_settings.specs.Settings.{gate_settings};
 ghost use Rattle.rule_verdict.specs.Verdict.{check_verdict};
 
+use attr_survey::Survey;
 use nas_settings::Gate;
-use packet_request::Request;
+use packet_form::Packet;
 use refusals::Discard;
 use rule_causes::Cause;
 
@@ -20,21 +23,26 @@ pub enum Verdict {
 }
 
 impl Verdict {
-    // D5, D6 and causes 1 to 6 of a request to which D4 does not apply.
-    pub fn of(request: &Request, gate: &Gate, clock: u32) -> Verdict
-        ensures { result ≡ check_verdict (gate_settings gate.now) true request.now.packet.bytes.now clock }
+    // D4 to D6 and causes 1 to 6 of a request that meets none of D1 to D3; signed says that D4 does not apply. The survey is that of its attributes.
+    pub fn of(signed: bool, packet: &Packet, survey: &Survey, gate: &Gate, clock: u32) -> Verdict
+        requires area_is { (survey.now.area.now ≡ area_of packet.now.bytes.now) × (survey.now.code ≡ code_of packet.now.bytes.now) }
+        requires flagged { Flagged survey.now.area.now survey.now.code survey.now.flags }
+        ensures { result ≡ check_verdict (gate_settings gate.now) «signed» packet.now.bytes.now clock }
     {
-        if packet_mac::bad_request_mac(request, gate.secret) {
+        if !signed {
+            return Verdict::Discarded(Discard::Authenticator);
+        }
+        if packet_mac::bad_request_mac(packet, gate.secret, survey) {
             return Verdict::Discarded(Discard::MessageAuthenticator);
         }
-        let Some(stamp) = rule_stamp::stamp_of(&request.survey) else {
+        let Some(stamp) = rule_stamp::stamp_of(survey) else {
             return Verdict::Discarded(Discard::Timestamp);
         };
         let skew = rule_stamp::skew(stamp, clock);
         if rule_stamp::stale(stamp, clock) {
             return Verdict::Stale(skew);
         }
-        match rule_causes::first_cause(&request.survey, gate) {
+        match rule_causes::first_cause(survey, gate) {
             Some(cause) => Verdict::Nak(cause, skew),
             None => Verdict::Passed(skew),
         }

@@ -8,27 +8,29 @@ ghost use Rattle.das_effects.specs.Matching.{matches_in};
 ghost use Rattle.sched_job.specs.Moves.{match_job};
 
 use crate::{Job, Stage};
-use packet_request::Request;
+use attr_survey::Survey;
+use packet_form::Packet;
 
-fn matches(request: &Request, t: &[u8], k: usize) -> bool
-    requires { found (first_repeated none (attributes (area_of request.now.packet.bytes.now))) ≡ false }
-    ensures { result ≡ matches_in (area_of request.now.packet.bytes.now) t.now k }
+fn matches(survey: &Survey, t: &[u8], k: usize) -> bool
+    requires { found (first_repeated none (attributes survey.now.area.now)) ≡ false }
+    ensures { result ≡ matches_in survey.now.area.now t.now k }
 {
-    let criteria = das_effects::criteria(&request.survey);
-    table_match::match_slot(t, k, request.survey.area, &criteria)
+    let criteria = das_effects::criteria(&survey.noted);
+    table_match::match_slot(t, k, survey.area, &criteria)
 }
 
 impl Job {
-    // Match: slot k, by the request that the store still shows.
+    // Match: slot k, by a packet in the store and the survey of its attributes.
     #[tactic(auto, unfolding(crate::specs::Moves::match_job))]
-    pub fn match_slot(self, k: usize, request: &Request, t: &[u8]) -> Job
+    pub fn match_slot(self, k: usize, packet: &Packet, survey: &Survey, t: &[u8]) -> Job
         requires k_bound { k < slot_count t.now }
-        requires once { found (first_repeated none (attributes (area_of request.now.packet.bytes.now))) ≡ false }
-        ensures { result ≡ match_job self k request.now.packet.bytes.now t.now }
+        requires area_is { survey.now.area.now ≡ area_of packet.now.bytes.now }
+        requires once { found (first_repeated none (attributes (area_of packet.now.bytes.now))) ≡ false }
+        ensures { result ≡ match_job self k packet.now.bytes.now t.now }
     {
         let next = k + 1;
         let mut marks = self.marks;
-        if matches(request, t, k) {
+        if matches(survey, t, k) {
             marks[k] = 1;
         }
         Job {

@@ -29,7 +29,7 @@ fn match_or_commit(
     ensures reply_after { reply.new ≡ reply_after secret.now shown.now.request.packet.bytes.now reply.old result.ending }
 {
     if k < table_slots::slot_count(t) {
-        return sched_job::going(j.match_slot(k, &shown.request, t));
+        return sched_job::going(j.match_slot(k, &shown.request.packet, &shown.request.survey, t));
     }
     j.commit(shown, secret, t, reply)
 }

@@ -1,4 +1,4 @@
--- Check of the store: where it no longer holds the request the answer is D1, where its words are not the authenticator D4, else what the verdict comes to.
+-- Check of the store: where it no longer holds the request the answer is D1, else what the verdict comes to.
 -- Assumes nothing.
 use mathlib.Core.Path.{◌≡◌, ◌∙◌}
 use mathlib.Core.Bool.{Bool, true, false}
@@ -21,14 +21,10 @@ module _ (g : Settings) (words : List ℕ) (n clock : ℕ) (q : List ℕ) where
   unfolding store_judged
   store_gone h = rw h
 
-  module _ (held : holds n q ≡ true) (d : Bool) (is : d ≡ words_signed words q) where
-    pub store_unsigned : d ≡ false → Err (A.Discarded R.Authenticator) ≡ store_judged g words n clock q
-    unfolding store_judged check_verdict
-    store_unsigned h = rw (held, ← is, h)
-
-    pub store_held : d ≡ true → (p : List ℕ) → p ≡ q → (r : Result ℤ Answer) → r ≡ judged_as p (check_verdict g true p clock) → r ≡ store_judged g words n clock q
-    unfolding store_judged
-    store_held h p same r e = e ∙ rw (same, held, ← is, h)
+  pub store_held : holds n q ≡ true → (d : Bool) → d ≡ words_signed words q → (p : List ℕ) → p ≡ q → (r : Result ℤ Answer) → r ≡ judged_as p (check_verdict g d p clock)
+      → r ≡ store_judged g words n clock q
+  unfolding store_judged
+  store_held held d is p same r e = e ∙ rw (same, held, is)
 
 pub store_reply : (secret p q b u : List ℕ) (r : Result ℤ Answer) → p ≡ q → u ≡ reply_judged secret p b r → u ≡ reply_judged secret q b r
 store_reply secret p q b u r same e = e ∙ rw same

@@ -6,7 +6,6 @@ ghost use Rattle.sched_reread.specs.Check.{store_judged};
 
 use das_answer::Answer;
 use nas_settings::Gate;
-use packet_request::Request;
 use refusals::Discard;
 
 pub fn check(
@@ -24,9 +23,7 @@ pub fn check(
     let Some(packet) = crate::held(n, q) else {
         return Err(Answer::Discarded(Discard::Length));
     };
-    if packet_words::is_authenticator(words, q) {
-        let request = Request::of(packet);
-        return das_judge::judge(&request, gate, clock, reply);
-    }
-    Err(Answer::Discarded(Discard::Authenticator))
+    let signed = packet_words::is_authenticator(words, q);
+    let (judged, _) = das_judge::judge(signed, packet, gate, clock, reply);
+    judged
 }

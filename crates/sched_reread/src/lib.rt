@@ -6,6 +6,7 @@ mod shown; // shown.rt: the request that the store still shows
 
 ghost use Rattle.std.specs.Prelude.{◌≡◌, true, false, not, ◌&&◌, eqb, is_none, None, MatchOption};
 ghost use Rattle.attr_walk.specs.Attributes.{attributes, any};
+ghost use Rattle.attr_survey.specs.Survey.{Flagged};
 ghost use Rattle.attr_survey.specs.Noted.{noted_at, seen_at};
 ghost use Rattle.nas_settings.specs.Settings.{gate_settings};
 ghost use Rattle.rule_causes.specs.Causes.{cause_of};
@@ -46,6 +47,7 @@ fn plain_mac(survey: &Survey) -> bool
 
 // No type 80 has another length than 18, and none of causes 1 to 6 applies. Where none applies type 80 stands at most once.
 fn unobjected(survey: &Survey, gate: &Gate) -> bool
+    requires { Flagged survey.now.area.now survey.now.code survey.now.flags }
     ensures { result ≡ (not (any odd_mac (attributes survey.now.area.now)) && is_none (cause_of survey.now.code gate.now.nas_ip gate.now.nas_id.now survey.now.area.now)) }
 {
     if rule_causes::first_cause(survey, gate).is_some() {

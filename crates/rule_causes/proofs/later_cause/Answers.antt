@@ -12,8 +12,8 @@ returns-then-other_value c = search (rules, later_name)
 pub returns-then-missing : goal.returns-then-missing
 returns-then-missing c = search (rules, later_402)
 
-pub returns-then-survey-gt34 : goal.returns-then-survey-gt34
-returns-then-survey-gt34 c = search (rules, later_506)
+pub returns-then-first_of-gt34 : goal.returns-then-first_of-gt34
+returns-then-first_of-gt34 c = search (rules, later_506)
 
 pub returns : goal.returns
 returns c = search (rules, later-none)

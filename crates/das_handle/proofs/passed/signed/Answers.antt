@@ -4,7 +4,7 @@ use Rattle.das_handle.proofs.Arms.{ended_answer, ended_table, ended_reply, passe
 use Rattle.das_handle.proofs.passed.signed.Goals as goal
 
 pub matched-requires-clause-committable : goal.matched-requires-clause-committable
-matched-requires-clause-committable c = passed_commits _ _ _ _ c.judge.ensures.value _ c.in-Ok.is _ c.of-request.result.packet.sized
+matched-requires-clause-committable c = passed_commits _ _ _ (search rules) _ _ c.judge-judged.ensures.value _ c.in-Ok.is _ c.judge-judged.result.1.packet.sized
 
 pub matched-requires-clause-room : goal.matched-requires-clause-room
 matched-requires-clause-room c = search (rules, passed_room)

@@ -1,7 +1,10 @@
 -- `rule_verdict::Verdict::of` meets its contract: each return is the first of D5, D6 and the causes that applies.
 use borrow.Author.Rules.{rules}
-use Rattle.rule_verdict.proofs.Verdicts.{check_mac, check_unusable, check_stale, check_nak, check_passed}
+use Rattle.rule_verdict.proofs.Verdicts.{check_unsigned, check_mac, check_unusable, check_stale, check_nak, check_passed}
 use Rattle.rule_verdict.proofs.Verdict.of.Goals as goal
+
+pub returns-then-not-signed : goal.returns-then-not-signed
+returns-then-not-signed c = search (rules, check_unsigned)
 
 pub returns-then-bad_request_mac : goal.returns-then-bad_request_mac
 returns-then-bad_request_mac c = search (rules, check_mac)

@@ -1,7 +1,7 @@
--- `das_judge::judge` meets its contract: each arm is its part of the definition.
+-- `das_judge::judged` meets its contract: each arm is its part of the definition.
 use borrow.Author.Rules.{rules}
 use Rattle.das_judge.proofs.Verdicts.{arm_discarded, arm_stale, arm_nak, arm_passed, nak_reply, nak_fits}
-use Rattle.das_judge.proofs.judge.Goals as goal
+use Rattle.das_judge.proofs.judged.Goals as goal
 
 pub nak-requires : goal.nak-requires
 nak-requires c = (search (rules, nak_fits), search rules)
