@@ -1,7 +1,7 @@
 -- Answers as numbers for C: 0 acknowledged or done; 1 to 99 refused, document 01's R number; 100 + n discarded by Dn; 200 + n failed Vn;
 -- 401 to 599 NAK with that Error-Cause. Beside them go numbers which a refusal leaves as they were.
 -- Assumes nothing.
-use Rattle.std.specs.Prelude.{ℕ, ◌+◌, ◌^◌, ◌<◌, ℤ, pos, Result, Ok, Err}
+use Rattle.std.specs.Prelude.{ℕ, ◌+◌, ◌^◌, ◌<◌, ℤ, pos, Option, Some, None, Result, Ok, Err}
 use Rattle.rule_causes.specs.Causes.{error_cause}
 use Rattle.das_answer.specs.declared.Answer as D
 use Rattle.das_answer.specs.declared.Answer.TheVariants.{Refused, Discarded, Stale, Nak, Ack}
@@ -29,6 +29,11 @@ answer_told (Discarded d) old = told (100 + discard_number d) 0 0 (pos 0) 0
 answer_told (Stale skew) old = stamped 106 0 0 skew
 answer_told (Nak c skew n) old = stamped (error_cause c) 0 n skew
 answer_told (Ack k skew n) old = stamped 0 k n skew
+
+-- a call that gives no number but this: 0 where nothing refuses it
+abbrev pub refused_number : Option Refusal → ℕ
+refused_number None = 0
+refused_number (Some r) = refusal_number r
 
 -- for inner contracts: the two that are counted fit into 32 bits
 pub record Small (n : Told) : Type 0 where

@@ -10,7 +10,8 @@ use Rattle.das_answer.specs.declared.Answer.TheVariants as A
 use Rattle.das_handle.specs.Handle.{handle_answer}
 use Rattle.das_answer.specs.Replied.{reply_size}
 use Rattle.das_handle.proofs.Bounds.{change_count, reply_most, change_few}
-use Rattle.c_numbers.specs.Numbers.{Told, alone, answer_told, Small}
+use Rattle.c_numbers.specs.declared.numbers.Told.{Told}
+use Rattle.c_numbers.specs.Numbers.{alone, answer_told, Small}
 
 changed_is : (a : D.Answer) → (answer_told a (alone 0)).changed ≡ change_count a
 unfolding answer_told

@@ -15,6 +15,26 @@ ghost use Rattle.dac_write.specs.Writer.{draft, write_answer, write_output};
 ghost use Rattle.dac_check.specs.ReplyCheck.{check_answer};
 ghost use Rattle.c_numbers.specs.Numbers.{told, answer_told, written_number, written_length, checked_number};
 
+use c_numbers::numbers::Told;
+use nas_settings::Gate;
+
+// Writes what C is told of an answer where C lends the numbers, and gives back the answer's own.
+fn told_to(
+    numbers: Told,
+    changed: &mut u32,
+    size: &mut u32,
+    skew: &mut i64,
+    stamped: &mut u32,
+) -> u32
+    ensures { told result changed.new size.new skew.new stamped.new ≡ numbers }
+{
+    *changed = numbers.changed;
+    *size = numbers.length;
+    *skew = numbers.skew;
+    *stamped = numbers.stamped;
+    numbers.answer
+}
+
 // Handles a request.
 #[unsafe(no_mangle)]
 pub extern "C" fn fbk_handle(
@@ -34,8 +54,21 @@ pub extern "C" fn fbk_handle(
     ensures table_after { table.new ≡ handle_table (settings secret.now nas_ip nas_id.now) table.old reply.old packet.now clock }
     ensures reply_after { reply.new ≡ handle_reply (settings secret.now nas_ip nas_id.now) table.old reply.old packet.now clock }
 {
-    let a = das_handle::handle(table, secret, nas_ip, nas_id, reply, packet, clock);
-    c_numbers::numbers::tell(a, changed, size, skew, stamped)
+    let gate = Gate {
+        secret,
+        nas_ip,
+        nas_id,
+    };
+    let a = das_handle::handle(table, &gate, reply, packet, clock);
+    let old = Told {
+        answer: 0,
+        changed: *changed,
+        length: *size,
+        skew: *skew,
+        stamped: *stamped,
+    };
+    let told = c_numbers::numbers::tell(a, old);
+    told_to(told, changed, size, skew, stamped)
 }
 
 // Writes a request.

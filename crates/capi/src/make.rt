@@ -4,7 +4,9 @@ ghost use Rattle.nas_settings.specs.Settings.{settings};
 ghost use Rattle.sched_state.specs.Refusals.{make_refusal};
 ghost use Rattle.sched_rows.specs.Layout.{held};
 ghost use Rattle.sched_rows.specs.Left.{make_left};
+ghost use Rattle.c_numbers.specs.Numbers.{refused_number};
 
+use nas_settings::Gate;
 use sched_rows::Rows;
 
 #[unsafe(no_mangle)]
@@ -22,7 +24,7 @@ pub extern "C" fn fbk_make_lent(
     ip: u32,
     nas_id: &[u8],
 ) -> u32
-    ensures value { result ≡ make_refusal (settings secret.now ip nas_id.now) }
+    ensures value { result ≡ refused_number (make_refusal (settings secret.now ip nas_id.now)) }
     ensures label_after { held words.new kinds.new places.new marks.new kept.new size.new nas_ip.new own.new label.new ≡ make_left (settings secret.now ip nas_id.now) (held words.old kinds.old places.old marks.old kept.old size.old nas_ip.old own.old label.old) }
 {
     let mut rows = Rows {
@@ -31,7 +33,13 @@ pub extern "C" fn fbk_make_lent(
         places,
         marks,
     };
-    sched_make::make(
-        &mut rows, kept, size, nas_ip, own, label, secret, ip, nas_id,
-    )
+    let gate = Gate {
+        secret,
+        nas_ip: ip,
+        nas_id,
+    };
+    match sched_make::make(&mut rows, kept, size, nas_ip, own, label, &gate) {
+        Ok(()) => 0,
+        Err(r) => u32::from(r),
+    }
 }

@@ -8,6 +8,7 @@ ghost use Rattle.sched_rows.specs.Left.{start_left};
 ghost use Rattle.c_told.specs.Told.{number_by, place_by};
 
 use sched_rows::Made;
+use table_records::Session;
 
 #[unsafe(no_mangle)]
 pub extern "C" fn fbk_start_lent(
@@ -43,8 +44,15 @@ pub extern "C" fn fbk_start_lent(
         nas_id,
         nas_id_size: label,
     };
-    sched_start::start(
-        words, kinds, places, marks, &made, table, port, framed, timeout, idle, user, id, station,
-        filter, slot,
-    )
+    let session = Session {
+        nas_port: port,
+        framed_address: framed,
+        session_timeout: timeout,
+        idle_timeout: idle,
+        user_name: user,
+        session_id: id,
+        calling_station: station,
+        filter_id: filter,
+    };
+    sched_start::start(words, kinds, places, marks, &made, table, &session, slot)
 }

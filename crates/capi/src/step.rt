@@ -6,6 +6,7 @@ ghost use Rattle.sched_rows.specs.Left.{step_left};
 ghost use Rattle.c_numbers.specs.Numbers.{told};
 ghost use Rattle.c_told.specs.Told.{told_by};
 
+use c_numbers::numbers::Told;
 use sched_rows::{Made, Rows};
 
 #[unsafe(no_mangle)]
@@ -46,16 +47,13 @@ pub extern "C" fn fbk_step_lent(
         nas_id,
         nas_id_size: label,
     };
-    sched_step::step(
-        &mut rows,
-        &made,
-        job as usize,
-        table,
-        reply,
-        store,
-        changed,
-        bytes,
-        skew,
-        stamped,
-    )
+    let old = Told {
+        answer: 0,
+        changed: *changed,
+        length: *bytes,
+        skew: *skew,
+        stamped: *stamped,
+    };
+    let told = sched_step::step(&mut rows, &made, job as usize, table, reply, store, old);
+    crate::told_to(told, changed, bytes, skew, stamped)
 }

@@ -1,6 +1,6 @@
 -- Opening: R5 and R6 in their order, then D1 to D3, which all leave everything as it was; else the lowest free job gets the packet's Length bytes.
 -- Assumes nothing.
-use mathlib.Core.Path.{◌≡◌, sym, ◌∙◌}
+use mathlib.Core.Path.{◌≡◌, ◌∙◌}
 use mathlib.Core.List.{List}
 use Prim.Native.Nat.{ℕ, ◌+◌, ◌*◌}
 use Rattle.std.specs.Prelude.{Some, None}

@@ -10,7 +10,6 @@ use lib.IntN.{ℤ}
 use Rattle.std.specs.Prelude.{Option, Some, None, Err}
 use Rattle.refusals.specs.declared.Discard.{Discard}
 use Rattle.refusals.specs.declared.Discard.TheVariants as Y
-use Rattle.refusals.specs.Numbers.{discard_number}
 use Rattle.nas_settings.specs.Settings.{Settings}
 use lib.ListN.{length}
 use Rattle.table_slots.specs.Slot.{slot_count}
