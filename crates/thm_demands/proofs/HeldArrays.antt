@@ -31,11 +31,11 @@ make_kept g h n e = rw e
 pub holding : (h : Held) (t b store : List ℕ) → Holding h t b store
 holding h t b store =
     record {
-      make_kept = λ g n e. make_kept g h n e;
-      open_kept = λ p clock n e. refused_kept _ _ _ h n e;
-      open_discarded_kept = λ p clock d e. discarded_kept _ _ _ h d e;
-      step_kept = λ j n e. refused_kept _ _ _ h n e;
-      drop_kept = λ j n e. refused_kept _ _ _ h n e;
-      start_kept = λ x n e. refused_kept _ _ _ h n e;
-      end_kept = λ k n e. refused_kept _ _ _ h n e;
+      make_kept = λ g n e. make_kept g h _ e;
+      open_kept = λ p clock n e. refused_kept _ _ _ h _ e;
+      open_discarded_kept = λ p clock d e. discarded_kept _ _ _ h _ e;
+      step_kept = λ j n e. refused_kept _ _ _ h _ e;
+      drop_kept = λ j n e. refused_kept _ _ _ h _ e;
+      start_kept = λ x n e. refused_kept _ _ _ h _ e;
+      end_kept = λ k n e. refused_kept _ _ _ h _ e;
     }

@@ -105,7 +105,8 @@ count_quits C n k t u i l false = tt
 commit_quits : (C : D.Answer → Type 0) (j : B.Job) (q t u : List ℕ) → Quit C t u (commit_move j q t)
 unfolding commit_move commit_answer count_answer
 commit_quits C j q t u =
-    count_quits C (count_marked j.marks (slot_count t) t) (skew_at (stamp_of (area_of q)) j.clock) t u _ _ (eqb (count_marked j.marks (slot_count t) t) 0)
+    let n = count_marked j.marks (slot_count t) t in
+    count_quits C n (skew_at (stamp_of (area_of q)) j.clock) t u _ _ (eqb n 0)
 
 slot_by : (g : Settings) (j : B.Job) (k : ℕ) (q t : List ℕ) (f h : Bool) → holds_passed g j.length q ≡ f
     → Quit (λ (a : D.Answer). ComesTo g j q a (P.Match k)) t (cond f (cond h t (commit_table q j.marks t)) t)

@@ -9,7 +9,8 @@ use Rattle.octet_numbers.specs.Runs.{write}
 use Rattle.attr_walk.specs.declared.Attribute.{Attribute}
 use Rattle.attr_walk.specs.Attributes.{attributes, value_of, first_of, kind_is}
 use Rattle.packet_auth.specs.Signing.{zeros, authenticator}
-use Rattle.table_slots.specs.Slot.{slot_count, slot, live, nas_port, framed_address, session_timeout, idle_timeout, user_name, session_id, calling_station, filter_id, down_rate, up_rate}
+use Rattle.table_slots.specs.Slot.{slot_count, slot, live, nas_port, framed_address, session_timeout, idle_timeout, user_name, session_id}
+use Rattle.table_slots.specs.Slot.{calling_station, filter_id, down_rate, up_rate}
 use Rattle.table_change.specs.Change.{altered}
 use Rattle.refusals.specs.declared.Refusal.{Refusal}
 use Rattle.rule_causes.specs.declared.cause.Cause.{Cause}
@@ -102,4 +103,5 @@ pub record Demand2 : Type 0 where
   pub written : (secret out : List ℕ) (d : Draft) → write_refusal secret out d ≡ None
       → (write_answer secret out d ≡ Ok (length (request_of secret d))) × (write_output secret out d ≡ write out 0 (request_of secret d))
   pub accepted : (secret out : List ℕ) (d : Draft) → write_refusal secret out d ≡ None
-      → (form_of (request_of secret d) ≡ None) × (signed_by secret (request_of secret d) ≡ true) × (bad_mac zeros secret (request_of secret d) ≡ false)
+      → (form_of (request_of secret d) ≡ None) × (signed_by secret (request_of secret d) ≡ true)
+      × (bad_mac zeros secret (request_of secret d) ≡ false)
