@@ -54,11 +54,13 @@ fn by_type(s: &[u8], code: u8, noted: &mut [Noted; 256]) -> Flags
     let table = attr_types::table();
     let mut f = no_flags();
     let mut at: usize = 0;
+    // A walk goes by places and not by a count: each step tells the next.
     loop {
         match attr_walk::step_at(s, at) {
             attr_walk::Step::Found(a, next) => {
                 let kind = a.kind;
                 let size = a.size;
+                // It fits, and `try_from` would give an error that cannot come.
                 let end = next as u16;
                 at = next;
                 let class = attr_types::class_in(&table, kind);
@@ -86,6 +88,7 @@ fn with_vendors(s: &[u8], code: u8, noted: &mut [Noted; 256]) -> Flags
     ensures kept { Kept s.now noted.new }
 {
     let f = by_type(s, code, &mut *noted);
+    // A constant as an index, by a cast: with usize::from the proof did not close.
     if noted[VENDOR_SPECIFIC as usize].number == 0 {
         return f;
     }

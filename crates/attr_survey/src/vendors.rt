@@ -40,6 +40,7 @@ pub fn joined(f: Flags, s: &[u8]) -> Flags
 {
     let mut g = f;
     let mut at: usize = 0;
+    // A walk goes by places and not by a count: each step tells the next.
     loop {
         match attr_walk::step_at(s, at) {
             Step::Found(a, next) => {

@@ -56,6 +56,7 @@ fn items(v: &[u8], from: usize, left: usize, held: Rates) -> Result<Rates, usize
 {
     let mut at = from;
     let mut rates = held;
+    // A walk goes by places and not by a count: each step tells the next.
     loop {
         match attr_walk::step_at(v, at) {
             Step::Found(a, next) => {

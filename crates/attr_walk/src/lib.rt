@@ -76,6 +76,7 @@ pub fn tiles(s: &[u8]) -> bool
     ensures { result ≡ tiled s.now }
 {
     let mut at = 0;
+    // A walk goes by places and not by a count: each step tells the next.
     loop {
         match step_at(s, at) {
             Step::Found(_, next) => at = next,

@@ -22,5 +22,6 @@ pub fn write_request(
     ensures out_after { out.new ≡ write_output secret.now out.old (draft code identifier given.now «add») }
 {
     writing::refusal(code, given, add, secret, &*out)?;
+    // The code fits, and `try_from` would give an error that cannot come.
     Ok(writing::put_request(code as u8, identifier, given, add, secret, out))
 }

@@ -27,6 +27,7 @@ fn unfit(s: &[u8]) -> bool
     ensures { result ≡ not (tiled s.now) || any (kind_is 80) (attributes s.now) }
 {
     let mut at = 0;
+    // A walk goes by places and not by a count: each step tells the next.
     loop {
         match attr_walk::step_at(s, at) {
             attr_walk::Step::Found(a, next) => {

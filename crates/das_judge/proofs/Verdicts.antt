@@ -5,7 +5,7 @@ use mathlib.Core.Bool.{true}
 use mathlib.Core.List.{List}
 use Prim.Native.Nat.{ℕ, ◌≤◌}
 use lib.IntN.{ℤ}
-use Rattle.std.specs.Prelude.{Result, Ok, Err, Some}
+use Rattle.std.specs.Prelude.{Ok, Err, Some}
 use Rattle.refusals.specs.declared.Discard.{Discard}
 use Rattle.octet_numbers.specs.Runs.{write}
 use Rattle.rule_causes.specs.declared.cause.Cause.{Cause}

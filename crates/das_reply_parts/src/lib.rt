@@ -68,6 +68,7 @@ fn put_proxies(t: &mut [u8], from: usize, s: &[u8]) -> usize
 {
     let mut at: usize = 0;
     let mut to = from;
+    // A walk goes by places and not by a count: each step tells the next.
     loop {
         match attr_walk::step_at(s, at) {
             Step::Found(a, next) => {

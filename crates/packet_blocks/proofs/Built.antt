@@ -75,7 +75,8 @@ module _ (k n : ℕ) (p secret : List ℕ) (later : 0 < k) (inside : k < n / 64)
       let lb : length body ≡ n - 20 = simp (length-drop, length-take) (omega arith) in
       let i : 64 * k ≡ length head + (64 * k - 20) = omega arith in
       let j : 20 + (64 * k - 20) ≡ 64 * k = omega arith in
-      ap (λ (m : List ℕ). take 64 (drop (64 * k) m)) (append_assoc (head ++ body) secret (padding (length (signed zeros p n secret))) ∙ append_assoc head body rest)
+      ap (λ (m : List ℕ). take 64 (drop (64 * k) m))
+      (append_assoc (head ++ body) secret (padding (length (signed zeros p n secret))) ∙ append_assoc head body rest)
       ∙ ap (λ (e : ℕ). take 64 (drop e (head ++ (body ++ rest)))) i
       ∙ ap (take 64) (drop-append-add head (body ++ rest) (64 * k - 20) ∙ drop-append-le (64 * k - 20) body rest (omega arith))
       ∙ take-append-le 64 (drop (64 * k - 20) body) rest (rw (length-drop (64 * k - 20) body) (omega arith))
@@ -88,7 +89,8 @@ one_block q r b l e =
     let one : length b / 64 ≡ 1 = omega arith in
     e ∙ rw (one, take_all 64 b (omega arith))
 
-pub hashed_there : (q r : State) (k n s : ℕ) (p secret : List ℕ) → r ≡ after q (length (take (s + 64 - s) (drop s p)) / 64) (take (s + 64 - s) (drop s p))
+pub hashed_there : (q r : State) (k n s : ℕ) (p secret : List ℕ)
+    → r ≡ after q (length (take (s + 64 - s) (drop s p)) / 64) (take (s + 64 - s) (drop s p))
     → s ≡ 64 * k → 0 < k → k < n / 64 → n ≤ length p → r ≡ hashed q k p n secret
 unfolding hashed
 hashed_there q r k n s p secret e es h g f =

@@ -43,6 +43,7 @@ pub fn put_front(t: &mut [u8], code: u8, identifier: u8, n: usize, auth: &[u8; 1
 {
     t[0] = code;
     t[1] = identifier;
+    // n fits, and `try_from` would give an error that cannot come.
     octet_numbers::put_be16(&mut *t, 2, n as u16);
     octet_copies::copy(t, 4, auth);
 }

@@ -16,7 +16,8 @@ module _ (p : List ℕ) (n : ℕ) (secret : List ℕ) where
   pub words_more : (q r : State) (k : ℕ) → q ≡ hashed_to k p n secret → r ≡ hashed q k p n secret → r ≡ hashed_to (k + 1) p n secret
   words_more q r k e g = rw (add-one, blocks_more k p n secret, ← e) g
 
-  pub words_all : (q : State) (k e : ℕ) (d : List ℕ) → q ≡ hashed_to k p n secret → e ≡ block_count (n + length secret) → k ≤ e → e ≤ k → d ≡ output q
+  pub words_all : (q : State) (k e : ℕ) (d : List ℕ) → q ≡ hashed_to k p n secret → e ≡ block_count (n + length secret) → k ≤ e → e ≤ k
+      → d ≡ output q
       → 20 ≤ n → n ≤ length p → d ≡ authenticator zeros p n secret
   words_all q k e d i g h l j low fits =
       let s : k ≡ block_count (n + length secret) = omega arith in

@@ -1,4 +1,5 @@
-// Exports for tests and benchmarks of the signatures and of the verdict, apart from the product's C library. A refused call answers 1 and writes nothing.
+// Exports for tests and benchmarks of the signatures and of the verdict, apart from the product's C library.
+// A refused call answers 1 and writes nothing.
 #![tactic(auto)]
 
 mod verdict; // verdict.rt: the verdict on a request, in numbers
@@ -58,7 +59,7 @@ pub extern "C" fn probe_mac(
 }
 
 // The authenticator of a request from the words after each of its blocks.
-#[tactic(auto, using(packet_blocks::proofs::Stepwise::blocks_none, crate::proofs::Blocks::words_more))]
+#[tactic(auto, using(packet_blocks::proofs::Stepwise::blocks_none))]
 fn by_blocks(p: &[u8], n: usize, secret: &[u8]) -> [u8; 16]
     requires { (20 ≤ n) × (n ≤ length p.now) × (n ≤ 4096) × (length secret.now ≤ 64) }
     ensures { result ≡ authenticator zeros p.now n secret.now }

@@ -1,5 +1,5 @@
 // The verdict on a request before any session is looked at, in numbers.
-ghost use Rattle.std.specs.Prelude.{◌≡◌};
+ghost use Rattle.std.specs.Prelude.{◌≡◌, pos, MatchOption};
 ghost use Rattle.nas_settings.specs.Settings.{settings, gate_settings};
 ghost use Rattle.probe_packets.specs.Told.{verdict, number_of, skew_of, stamped_of};
 
@@ -24,9 +24,32 @@ fn judge(p: &[u8], gate: &Gate, clock: u32) -> Verdict
     }
 }
 
-// 0 passed, 100 + n discarded by Dn, else the NAK's cause; and the skew, where a stamp is usable.
+// 0 passed, 100 + n discarded by Dn, else the NAK's cause.
+#[tactic(auto, unfolding(crate::specs::Told::number_of))]
+fn number_of(v: Verdict) -> u32
+    ensures { result ≡ number_of v }
+{
+    match v {
+        Verdict::Discarded(d) => 100 + u32::from(d),
+        Verdict::Stale(_) => 106,
+        Verdict::Nak(cause, _) => u32::from(cause),
+        Verdict::Passed(_) => 0,
+    }
+}
+
+// The skew, where a stamp is usable.
+#[tactic(auto, unfolding(crate::specs::Told::skew_of, crate::specs::Told::stamped_of))]
+fn skew_of(v: Verdict) -> Option<i64>
+    ensures { MatchOption result ((skew_of v ≡ pos 0) × (stamped_of v ≡ 0)) (λ k. (skew_of v ≡ k) × (stamped_of v ≡ 1)) }
+{
+    match v {
+        Verdict::Discarded(_) => None,
+        Verdict::Stale(k) | Verdict::Nak(_, k) | Verdict::Passed(k) => Some(k),
+    }
+}
+
+// The verdict on a packet: its number, its skew, and whether there is one.
 #[unsafe(no_mangle)]
-#[tactic(auto, unfolding(crate::specs::Told::number_of, crate::specs::Told::skew_of, crate::specs::Told::stamped_of))]
 pub extern "C" fn probe_verdict(
     p: &[u8],
     secret: &[u8],
@@ -45,26 +68,9 @@ pub extern "C" fn probe_verdict(
         nas_ip,
         nas_id,
     };
-    match judge(p, &gate, clock) {
-        Verdict::Discarded(d) => {
-            *skew = 0;
-            *stamped = 0;
-            100 + u32::from(d)
-        }
-        Verdict::Stale(k) => {
-            *skew = k;
-            *stamped = 1;
-            106
-        }
-        Verdict::Nak(cause, k) => {
-            *skew = k;
-            *stamped = 1;
-            u32::from(cause)
-        }
-        Verdict::Passed(k) => {
-            *skew = k;
-            *stamped = 1;
-            0
-        }
-    }
+    let v = judge(p, &gate, clock);
+    let usable = skew_of(v);
+    *skew = usable.unwrap_or(0);
+    *stamped = u32::from(usable.is_some());
+    number_of(v)
 }

@@ -28,6 +28,7 @@ fn later_cause(survey: &Survey, gate: &Gate) -> Option<Cause>
     if missing(survey) {
         return Some(Cause::MissingAttribute);
     }
+    // A constant as an index, by a cast: with usize::from the proof did not close.
     if 34 < survey.noted[FILTER_ID as usize].size {
         return Some(Cause::ResourcesUnavailable);
     }

@@ -11,6 +11,7 @@ use attr_types::EVENT_TIMESTAMP;
 pub fn stamp_of(survey: &Survey) -> Option<u32>
     ensures { result ≡ stamp_of survey.now.area.now }
 {
+    // A constant as an index, by a cast: with usize::from the proof did not close.
     let first = survey.noted[EVENT_TIMESTAMP as usize];
     if first.number == 1 {
         if first.size == 6 {

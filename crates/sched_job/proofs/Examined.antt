@@ -1,11 +1,10 @@
 -- Match: what the pass kept asks the same of a slot as all attributes, since no type but 33 stands twice; and a table has at most 64 slots, so there is a mark for each.
 -- Assumes nothing.
 use mathlib.Core.Path.{◌≡◌, ◌∙◌}
-use mathlib.Core.Bool.{Bool, true, false}
+use mathlib.Core.Bool.{Bool, false}
 use mathlib.Core.List.{List}
-use Prim.Native.Nat.{ℕ, ◌+◌, ◌<◌}
+use Prim.Native.Nat.{ℕ, ◌<◌}
 use native.Mathlib.Omega.{arith}
-use lib.ListN.{set}
 use Rattle.attr_walk.specs.Attributes.{attributes, found}
 use Rattle.attr_types.specs.Types.{first_repeated, none}
 use Rattle.attr_survey.specs.declared.counts.Noted.{Noted}
@@ -19,9 +18,6 @@ use Rattle.packet_form.specs.Packet.{area_of}
 use Rattle.das_effects.specs.Taken.{taken_criteria}
 use Rattle.das_effects.specs.Matching.{matches_in}
 use Rattle.das_effects.proofs.Asked.{kept_match}
-use Rattle.sched_job.specs.declared.Job.{Job}
-use Rattle.sched_job.specs.declared.Stage.TheVariants.{Match}
-use Rattle.sched_job.specs.Moves.{match_job}
 
 pub slot_below : (t : List ℕ) (k : ℕ) → k < slot_count t → k < 64
 slot_below t k h = let c = counted t in omega arith

@@ -36,6 +36,7 @@ pub fn held(n: usize, q: &[u8]) -> Option<Packet<'_>>
 fn plain_mac(survey: &Survey) -> bool
     ensures { result ≡ not (seen_at survey.now.noted 80 && not (eqb (noted_at survey.now.noted 80).size 18)) }
 {
+    // A constant as an index, by a cast: with usize::from the proof did not close.
     let first = survey.noted[MESSAGE_AUTHENTICATOR as usize];
     if first.number != 0 {
         return first.size == 18;

@@ -5,6 +5,7 @@ use mathlib.Core.Bool.{Bool, true, false, cond}
 use mathlib.Core.List.{List}
 use mathlib.Core.Path.{◌≡◌, refl, sym, ap, ◌∙◌}
 use Prim.Native.Nat.{ℕ}
+use lib.IntN.{ℤ}
 use lib.ListN.{length, set}
 use Rattle.std.specs.Prelude.{Option, Some, None}
 use Rattle.refusals.specs.declared.Refusal.{Refusal}
@@ -32,10 +33,10 @@ module _ (ws ks ps ms : List (List ℕ)) (secret : List ℕ) (size nas_ip : ℕ)
   abbrev given : Held
   given = held ws ks ps ms secret size nas_ip nas_id label
 
-  pub refused_told : (v : ℕ) (old : Told) → v ≡ refusal_number r
-      → told v old.changed old.length old.skew old.stamped ≡ told_by (step_called (scheduler_in given) j t b store).outcome old
+  pub refused_told : (v : ℕ) (k : ℤ) (old : Told) → v ≡ refusal_number r → k ≡ old.skew
+      → told v old.changed old.length k old.stamped ≡ told_by (step_called (scheduler_in given) j t b store).outcome old
   unfolding step_called told_by answer_told
-  refused_told v old e = rw (← ez, ← is, e)
+  refused_told v k old e same = rw (← ez, ← is, e, same)
 
   pub refused_left : (ws' ks' ps' ms' : List (List ℕ)) → ws' ≡ ws → ks' ≡ ks → ps' ≡ ps → ms' ≡ ms
       → held ws' ks' ps' ms' secret size nas_ip nas_id label ≡ step_left given j t b store

@@ -61,12 +61,14 @@ pub fn step(
     ensures reply_after { reply.new ≡ step_reply (scheduler_in (held_by rows.old made.now)) j t.old reply.old store.now }
 {
     let gate = made.gate();
-    if let Some(r) = refusal(rows, gate.secret.len(), j, t, reply, store) {
-        return Told {
+    match refusal(rows, gate.secret.len(), j, t, reply, store) {
+        Some(r) => Told {
             answer: u32::from(r),
             ..old
-        };
+        },
+        None => {
+            let ending = moves::stepped(rows, &gate, j, t, reply, store);
+            c_told::tell(ending)
+        }
     }
-    let ending = moves::stepped(rows, &gate, j, t, reply, store);
-    c_told::tell(ending)
 }

@@ -17,6 +17,7 @@ pub fn put_text(t: &mut [u8], at: usize, cap: usize, v: &[u8])
 {
     let kept = octet_runs::slice(v, 0, cap);
     let n = kept.len();
+    // n fits, and `try_from` would give an error that cannot come.
     t[at] = n as u8;
     octet_copies::copy(&mut *t, at + 1, kept);
     octet_copies::fill(t, at + 1 + n, cap - n, 0);

@@ -78,12 +78,14 @@ module _ (h : Held) (f : Fits h) where
     pub again_ours : Ours (restart_all (with_job (scheduler_in h) j b)) → j < 4 → JobOurs (secret_in h.secret_size) b
     unfolding jobs_in restarted
     again_ours o l =
-        let e = get_or-map restarted (set (scheduler_in h).jobs j b) j free_job ∙ ap restarted (get_or-set_same (scheduler_in h).jobs j b free_job (omega (arith, l))) in
+        let same = get_or-set_same (scheduler_in h).jobs j b free_job (omega (arith, l)) in
+        let e = get_or-map restarted (set (scheduler_in h).jobs j b) j free_job ∙ ap restarted same in
         unrestarted (secret_in h.secret_size) b.stage b refl (subst (JobOurs (secret_in h.secret_size)) e (o.each j))
 
     module _ (fits : j < 4 → JobOurs (secret_in h.secret_size) b) where
       by_place : (p : Bool) → ltb j 4 ≡ p
-          → jobs_in (secret_in h.secret_size) (put_job h j b).words (put_job h j b).kinds (put_job h j b).places (put_job h j b).marks ≡ set (scheduler_in h).jobs j b
+          → jobs_in (secret_in h.secret_size) (put_job h j b).words (put_job h j b).kinds (put_job h j b).places (put_job h j b).marks
+          ≡ set (scheduler_in h).jobs j b
       by_place true e =
           let l = ltb-true j 4 e in
           put_in (secret_in h.secret_size) h.words h.kinds h.places h.marks j b f.words f.kinds f.places f.marks l (fits l)

@@ -8,7 +8,7 @@ use Prim.Native.Nat.{ℕ, ◌≤◌}
 use native.Mathlib.Omega.{arith}
 use lib.ListN.{length}
 use lib.Seq.{take-length}
-use Rattle.std.specs.Prelude.{None, Ok}
+use Rattle.std.specs.Prelude.{Option, None, Ok}
 use Rattle.nas_settings.specs.Settings.{Settings}
 use Rattle.octet_numbers.specs.Runs.{write}
 use Rattle.octet_numbers.proofs.Part.{part_whole, part-written}
@@ -16,7 +16,7 @@ use Rattle.octet_numbers.proofs.Write.{length-write}
 use Rattle.packet_form.specs.Packet.{length_of}
 use Rattle.packet_form.specs.Discards.{bad_length, Sized}
 use Rattle.packet_form.proofs.Forms.{good_sized, form_good}
-use Rattle.rule_causes.specs.declared.Cause.{Cause}
+use Rattle.rule_causes.specs.declared.cause.Cause.{Cause}
 use Rattle.das_reply_parts.specs.Reply.{reply_length, reply_of}
 use Rattle.das_reply_parts.proofs.Lengths.{length-reply_of}
 use Rattle.das_reply.proofs.Back.{reply_length_lem}
@@ -56,10 +56,11 @@ output secret out d h =
     let l = O.length_request secret d in
     let short : length (request_of secret d) ≤ length out = omega (arith, written_short secret out d h, (taken secret out d h).room) in
     ap unpadded (demand2.written secret out d h).1
-    ∙ at_start out (request_of secret d) (form_good (request_of secret d) (written_form secret out d h)) (sym (l ∙ (O.sized secret out d h).is)) short
+    ∙ at_start out (request_of secret d) (form_good (request_of secret d) (written_form secret out d h))
+    (sym (l ∙ (O.sized secret out d h).is)) short
 
 module _ (g : Settings) (t b p : List ℕ) (clock : ℕ) (answered : silent (handle_answer g t b p clock) ≡ false) where
-  reply_alone : (c : Cause) → unpadded (write b 0 (reply_of g.secret p c)) ≡ reply_of g.secret p c
+  reply_alone : (c : Option Cause) → unpadded (write b 0 (reply_of g.secret p c)) ≡ reply_of g.secret p c
   reply_alone c =
       let f = formed g t b p clock answered in
       let short : reply_length p c ≤ 4096 = omega (arith, f.room c, f.sized.high) in

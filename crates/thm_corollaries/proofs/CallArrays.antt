@@ -5,28 +5,25 @@ use mathlib.Core.Bool.{Bool, true, false, cond}
 use mathlib.Core.List.{List}
 use mathlib.Core.Path.{◌≡◌, refl, sym, ap, ◌∙◌}
 use Prim.Native.Nat.{ℕ}
-use lib.Dec.{eqb}
 use lib.ListN.{length}
+use Rattle.std.specs.Prelude.{Option, Some, None, Result, Ok, Err}
+use Rattle.refusals.specs.declared.Refusal.{Refusal}
+use Rattle.refusals.specs.declared.Discard.{Discard}
 use Rattle.table_records.specs.Record.{Session}
-use Rattle.table_sessions.specs.declared.Inserted as I
-use Rattle.table_sessions.specs.declared.Inserted.TheVariants.{Slot, NotInserted}
-use Rattle.table_sessions.specs.declared.Removed as X
-use Rattle.table_sessions.specs.declared.Removed.TheVariants.{Gone, NotRemoved}
 use Rattle.table_sessions.specs.Session.{insert_answer, remove_answer}
 use Rattle.das_answer.specs.declared.Answer as A
 use Rattle.packet_form.specs.Packet.{length_of}
 use Rattle.packet_form.specs.Discards.{form_of}
 use Rattle.sched_job.specs.declared.Job as B
 use Rattle.sched_job.specs.declared.Moved as M
-use Rattle.sched_job.specs.declared.Ending as E
-use Rattle.sched_job.specs.declared.Ending.TheVariants as K
 use Rattle.sched_job.specs.Job.{free_job, first_job}
 use Rattle.sched_state.specs.declared.Scheduler as D
 use Rattle.sched_state.specs.declared.Called as C
-use Rattle.sched_state.specs.declared.Outcome.TheVariants.{Refused, Discarded, Opened, Done, Dropped}
+use Rattle.sched_state.specs.declared.Outcome.TheVariants.{Done, Dropped}
 use Rattle.sched_state.specs.Scheduler.{open_at, lowest_free, with_job, restart_all, Ours}
 use Rattle.sched_state.specs.Refusals.{open_refusal, step_refusal, drop_refusal}
-use Rattle.sched_state.specs.Calls.{called, is_ack, stepped_as, moved_of, open_called, step_called, drop_called, started_as, start_called, ended_as, end_called}
+use Rattle.sched_state.specs.Calls.{called, unless_refused, opened_as, is_ack, stepped_as, moved_of}
+use Rattle.sched_state.specs.Calls.{open_called, step_called, drop_called, started_as, start_called, ended_as, end_called}
 use Rattle.sched_rows.specs.Layout.{Held, scheduler_in}
 use Rattle.sched_rows.specs.Left.{put_job, restart_held, left_by, open_left, step_left, drop_left, start_left, end_left}
 use Rattle.sched_rows.proofs.ReadOurs.{read_ours}
@@ -47,20 +44,21 @@ module _ (h : Held) (f : Fits h) where
 
   -- ---- Open
 
-  open_by : (x y : Bool) (b : B.Job) (j d n : ℕ)
-      → Ours (cond x (cond y (called (with_job s j b) (Opened j)) (called s (Discarded d))) (called s (Refused n))).scheduler
-      → Reads (left_by (cond x (cond y (called (with_job s j b) (Opened j)) (called s (Discarded d))) (called s (Refused n))).outcome 0 b h)
-      (cond x (cond y (called (with_job s j b) (Opened j)) (called s (Discarded d))) (called s (Refused n)))
+  open_by : (p : List ℕ) (clock : ℕ) (r : Option Refusal) (d : Option Discard) → Ours (unless_refused s r (opened_as s p clock d)).scheduler
+      → Reads (left_by (unless_refused s r (opened_as s p clock d)).outcome 0 (first_job (length_of p) clock) h)
+      (unless_refused s r (opened_as s p clock d))
   unfolding left_by
-  open_by true true b j d n o = record { is = put_reads h f j b (put_ours h f j b o); fits = fits_put h f j b }
-  open_by true false b j d n o = record { is = refl; fits = f }
-  open_by false y b j d n o = record { is = refl; fits = f }
+  open_by p clock None None o =
+      let j = lowest_free (open_at s.jobs) in
+      let b = first_job (length_of p) clock in
+      record { is = put_reads h f j b (put_ours h f j b o); fits = fits_put h f j b }
+  open_by p clock None (Some d) o = record { is = refl; fits = f }
+  open_by p clock (Some r) d o = record { is = refl; fits = f }
 
   pub open_reads : (p : List ℕ) (clock : ℕ) (store : List ℕ) → Reads (open_left h p clock store) (open_called s p clock store)
   unfolding open_called
   open_reads p clock store =
-      open_by (eqb (open_refusal (open_at s.jobs) (length store)) 0) (eqb (form_of p) 0) (first_job (length_of p) clock) (lowest_free (open_at s.jobs)) (form_of p) _
-      (open_ours s ours p clock store)
+      open_by p clock (open_refusal (open_at s.jobs) (length store)) (form_of p) (open_ours s ours p clock store)
 
   -- ---- Step
 
@@ -73,50 +71,51 @@ module _ (h : Held) (f : Fits h) where
       }
   ack_by_lem false b j a e o = record { is = put_reads h f j b (put_ours h f j b o); fits = fits_put h f j b }
 
-  ending_by : (j : ℕ) (m : M.Moved) (e : E.Ending) → Ours (stepped_as s j m e).scheduler
+  ending_by : (j : ℕ) (m : M.Moved) (e : Option A.Answer) → Ours (stepped_as s j m e).scheduler
       → Reads (left_by (stepped_as s j m e).outcome j m.job h) (stepped_as s j m e)
   unfolding left_by
-  ending_by j m K.Going o = record { is = put_reads h f j m.job (put_ours h f j m.job o); fits = fits_put h f j m.job }
-  ending_by j m (K.Done a) o = ack_by_lem (is_ack a) m.job j a refl o
+  ending_by j m None o = record { is = put_reads h f j m.job (put_ours h f j m.job o); fits = fits_put h f j m.job }
+  ending_by j m (Some a) o = ack_by_lem (is_ack a) m.job j a refl o
 
-  step_by : (x : Bool) (j : ℕ) (m : M.Moved) (n : ℕ) → Ours (cond x (stepped_as s j m m.ending) (called s (Refused n))).scheduler
-      → Reads (left_by (cond x (stepped_as s j m m.ending) (called s (Refused n))).outcome j m.job h) (cond x (stepped_as s j m m.ending) (called s (Refused n)))
+  step_by : (r : Option Refusal) (j : ℕ) (m : M.Moved) → Ours (unless_refused s r (stepped_as s j m m.ending)).scheduler
+      → Reads (left_by (unless_refused s r (stepped_as s j m m.ending)).outcome j m.job h) (unless_refused s r (stepped_as s j m m.ending))
   unfolding left_by
-  step_by true j m n o = ending_by j m m.ending o
-  step_by false j m n o = record { is = refl; fits = f }
+  step_by None j m o = ending_by j m m.ending o
+  step_by (Some r) j m o = record { is = refl; fits = f }
 
   pub step_reads : (j : ℕ) (t b store : List ℕ) → Reads (step_left h j t b store) (step_called s j t b store)
   unfolding step_called
-  step_reads j t b store = step_by (eqb (step_refusal (open_at s.jobs) (length store) j t b) 0) j (moved_of s j t store) _ (step_ours s ours j t b store)
+  step_reads j t b store = step_by (step_refusal (open_at s.jobs) (length store) j t b) j (moved_of s j t store) (step_ours s ours j t b store)
 
   -- ---- Drop, Start, End
 
-  drop_by : (x : Bool) (j n : ℕ) → Ours (cond x (called (with_job s j free_job) Dropped) (called s (Refused n))).scheduler
-      → Reads (left_by (cond x (called (with_job s j free_job) Dropped) (called s (Refused n))).outcome j free_job h) (cond x (called (with_job s j free_job) Dropped) (called s (Refused n)))
+  drop_by : (r : Option Refusal) (j : ℕ) → Ours (unless_refused s r (called (with_job s j free_job) Dropped)).scheduler
+      → Reads (left_by (unless_refused s r (called (with_job s j free_job) Dropped)).outcome j free_job h)
+      (unless_refused s r (called (with_job s j free_job) Dropped))
   unfolding left_by
-  drop_by true j n o = record { is = put_reads h f j free_job (put_ours h f j free_job o); fits = fits_put h f j free_job }
-  drop_by false j n o = record { is = refl; fits = f }
+  drop_by None j o = record { is = put_reads h f j free_job (put_ours h f j free_job o); fits = fits_put h f j free_job }
+  drop_by (Some r) j o = record { is = refl; fits = f }
 
   pub drop_reads : (j : ℕ) → Reads (drop_left h j) (drop_called s j)
   unfolding drop_called
-  drop_reads j = drop_by (eqb (drop_refusal (open_at s.jobs) j) 0) j _ (drop_ours s ours j)
+  drop_reads j = drop_by (drop_refusal (open_at s.jobs) j) j (drop_ours s ours j)
 
   again : (c : C.Called) → c.scheduler ≡ restart_all s → Reads (restart_held h) c
   again c e = record { is = again_reads h f ∙ sym e; fits = fits_again h f }
 
-  start_by : (v : I.Inserted) → Reads (left_by (started_as s v).outcome 0 free_job h) (started_as s v)
+  start_by : (v : Result ℕ Refusal) → Reads (left_by (started_as s v).outcome 0 free_job h) (started_as s v)
   unfolding left_by
-  start_by (Slot k) = again (started_as s (Slot k)) refl
-  start_by (NotInserted n) = record { is = refl; fits = f }
+  start_by (Ok k) = again (started_as s (Ok k)) refl
+  start_by (Err r) = record { is = refl; fits = f }
 
   pub start_reads : (x : Session) (t : List ℕ) → Reads (start_left h x t) (start_called s x t)
   unfolding start_called
   start_reads x t = start_by (insert_answer x t)
 
-  end_by : (v : X.Removed) → Reads (left_by (ended_as s v).outcome 0 free_job h) (ended_as s v)
+  end_by : (v : Result (Unit {0}) Refusal) → Reads (left_by (ended_as s v).outcome 0 free_job h) (ended_as s v)
   unfolding left_by
-  end_by Gone = again (ended_as s Gone) refl
-  end_by (NotRemoved n) = record { is = refl; fits = f }
+  end_by (Ok x) = again (ended_as s (Ok x)) refl
+  end_by (Err r) = record { is = refl; fits = f }
 
   pub end_reads : (k : ℕ) (t : List ℕ) → Reads (end_left h k t) (end_called s k t)
   unfolding end_called

@@ -4,8 +4,9 @@ use mathlib.Core.Path.{◌≡◌, refl, sym, ap, subst, ◌∙◌}
 use mathlib.Core.Bool.{Bool, true, false, cond}
 use mathlib.Core.List.{List}
 use Prim.Native.Nat.{ℕ}
-use lib.Dec.{eqb}
 use lib.ListN.{length}
+use Rattle.std.specs.Prelude.{Option, Some, None}
+use Rattle.refusals.specs.declared.Refusal.{Refusal}
 use Rattle.nas_settings.specs.Settings.{Settings}
 use Rattle.das_answer.specs.declared.Answer.{Answer}
 use Rattle.das_handle.specs.Handle.{handle_answer, handle_reply}
@@ -14,7 +15,7 @@ use Rattle.sched_state.specs.declared.Outcome.TheVariants as O
 use Rattle.sched_state.specs.Scheduler.{settings_of}
 use Rattle.sched_state.specs.Refusals.{step_refusal}
 use Rattle.sched_state.specs.Runs.{Call, Step, World, Out, call, run}
-use Rattle.thm_serial.specs.Serial.{noted, note_at, noted_at, Serial, serial_did, handled, serial_step, serial_call}
+use Rattle.thm_serial.specs.Serial.{noted, note_at, noted_at, Serial, serial_did, serial_unless_refused, handled, serial_step, serial_call}
 use Rattle.thm_serial.specs.Demand3.{finished, world, serially, New}
 use Rattle.thm_serial.proofs.Invariant.{serial_of}
 use Rattle.thm_serial.proofs.CallAgreement.{call_agrees}
@@ -31,17 +32,19 @@ module _ (b p : List ℕ) (clock : ℕ) where
   abbrev Told : Settings → List ℕ → Out → Type 0
   Told g t o = WhenDone (Handled g t o.reply) o.outcome
 
-  told : (free done : Bool) (n j : ℕ) (s : Serial)
-      → Told s.settings s.table (cond free (cond done (handled (noted p clock) j b s) (serial_did O.Going b s)) (serial_did (O.Refused n) b s)).out
-  told true true n j s = (refl, refl)
-  told true false n j s = tt
-  told false done n j s = tt
+  told : (r : Option Refusal) (done : Bool) (j : ℕ) (s : Serial)
+      → Told s.settings s.table (serial_unless_refused b s r (cond done (handled (noted p clock) j b s) (serial_did O.Going b s))).out
+  told None true j s = (refl, refl)
+  told None false j s = tt
+  told (Some r) done j s = tt
 
-  call-told : (done : Bool) (size j : ℕ) (s : Serial) → note_at s.notes j ≡ noted p clock → Told s.settings s.table (serial_call (Step j b) done size s).out
+  call-told : (done : Bool) (size j : ℕ) (s : Serial) → note_at s.notes j ≡ noted p clock
+      → Told s.settings s.table (serial_call (Step j b) done size s).out
   unfolding serial_call serial_step
-  call-told done size j s e = rw e (told (eqb (step_refusal (noted_at s.notes) size j s.table b) 0) done (step_refusal (noted_at s.notes) size j s.table b) j s)
+  call-told done size j s e = rw e (told (step_refusal (noted_at s.notes) size j s.table b) done j s)
 
-  module _ (s : D.Scheduler) (new : New s) (cs : List Call) (t store : List ℕ) (j : ℕ) (note : note_at (serially cs s t store).serial.notes j ≡ noted p clock) where
+  module _ (s : D.Scheduler) (new : New s) (cs : List Call) (t store : List ℕ) (j : ℕ)
+      (note : note_at (serially cs s t store).serial.notes j ≡ noted p clock) where
     abbrev left : World
     left = (run cs (world s t store)).world
 
@@ -52,7 +55,8 @@ module _ (b p : List ℕ) (clock : ℕ) where
         subst (Told (settings_of left.scheduler) left.table) (sym (call_agrees (Step j b) left r.notes r.tied).out_is)
         (call-told (finished (call (Step j b) left).out) (length left.store) j (serial_of left r.notes) here)
 
-    pub step_handles : (a : Answer) → (call (Step j b) left).out.outcome ≡ O.Done a → Handled (settings_of s) left.table (call (Step j b) left).out.reply a
+    pub step_handles : (a : Answer) → (call (Step j b) left).out.outcome ≡ O.Done a
+        → Handled (settings_of s) left.table (call (Step j b) left).out.reply a
     step_handles a e =
         subst (λ (g : Settings). Handled g left.table (call (Step j b) left).out.reply a) (settings_kept s new cs t store)
         (subst (WhenDone (Handled (settings_of left.scheduler) left.table (call (Step j b) left).out.reply)) e step-told)

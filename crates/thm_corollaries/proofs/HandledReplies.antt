@@ -5,7 +5,7 @@ use mathlib.Core.Path.{◌≡◌, ap, ◌∙◌}
 use mathlib.Core.Bool.{false, true≢false}
 use mathlib.Core.List.{List}
 use Prim.Native.Nat.{ℕ}
-use Rattle.rule_causes.specs.declared.Cause.TheVariants.{NoCause}
+use Rattle.std.specs.Prelude.{Some, None}
 use Rattle.nas_settings.specs.Settings.{Settings}
 use Rattle.das_answer.specs.declared.Answer.{Answer}
 use Rattle.das_answer.specs.declared.Answer.TheVariants as A
@@ -14,11 +14,14 @@ use Rattle.das_answer.specs.Replied.{silent}
 use Rattle.thm_demands.proofs.Second.{demand2}
 use Rattle.thm_corollaries.specs.Corollaries.{Passes}
 
-pub answer_passes : (g : Settings) (t b p : List ℕ) (clock : ℕ) (a : Answer) → handle_answer g t b p clock ≡ a → silent a ≡ false → Passes g.secret p b (handle_reply g t b p clock)
-answer_passes g t b p clock (A.Refused n) e h = absurd (true≢false h)
+pub answer_passes : (g : Settings) (t b p : List ℕ) (clock : ℕ) (a : Answer)
+    → handle_answer g t b p clock ≡ a → silent a ≡ false → Passes g.secret p b (handle_reply g t b p clock)
+answer_passes g t b p clock (A.Refused r) e h = absurd (true≢false h)
 answer_passes g t b p clock (A.Discarded d) e h = absurd (true≢false h)
 answer_passes g t b p clock (A.Stale k) e h = absurd (true≢false h)
 answer_passes g t b p clock (A.Nak c k n) e h =
-    record { cause = c; written = (demand2.judging g t b p clock).nak_reply c k n e; right = ((demand2.judging g t b p clock).carries (ap silent e ∙ h) c).passes }
+    let d = demand2.judging g t b p clock in
+    record { cause = Some c; written = d.nak_reply c k n e; right = (d.carries (ap silent e ∙ h) (Some c)).passes }
 answer_passes g t b p clock (A.Ack m k n) e h =
-    record { cause = NoCause; written = (demand2.judging g t b p clock).ack_reply m k n e; right = ((demand2.judging g t b p clock).carries (ap silent e ∙ h) NoCause).passes }
+    let d = demand2.judging g t b p clock in
+    record { cause = None; written = d.ack_reply m k n e; right = (d.carries (ap silent e ∙ h) None).passes }

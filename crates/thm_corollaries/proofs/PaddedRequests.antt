@@ -6,14 +6,14 @@ use mathlib.Core.Bool.{Bool, true, false}
 use mathlib.Core.List.{List}
 use Prim.Native.Nat.{ℕ}
 use native.Mathlib.Omega.{arith}
-use borrow.Author.Tests.{eqb-true}
-use lib.Dec.{eqb}
 use lib.Seq.{take-take}
+use Rattle.std.specs.Prelude.{Option, Some, None}
+use Rattle.refusals.specs.declared.Discard.{Discard}
 use Rattle.nas_settings.specs.Settings.{Settings}
 use Rattle.packet_form.specs.Packet.{length_of}
 use Rattle.packet_form.specs.Discards.{form_of}
 use Rattle.packet_laws.proofs.SameBytes.{SamePacket}
-use Rattle.rule_causes.specs.declared.Cause.TheVariants.{SessionNotFound, NoCause}
+use Rattle.rule_causes.specs.declared.cause.Cause.TheVariants.{SessionNotFound}
 use Rattle.rule_verdict.specs.declared.Verdict as R
 use Rattle.rule_verdict.specs.declared.Verdict.TheVariants as J
 use Rattle.rule_verdict.specs.Discards.{signed_by}
@@ -39,11 +39,11 @@ module _ (p q : List ℕ) (s : SamePacket p q) where
   unfolding count_answer
   answer_as_lem t (J.Discarded d) = refl
   answer_as_lem t (J.Stale k) = refl
-  answer_as_lem t (J.Nak c k) = rw (length_same p q s c)
-  answer_as_lem t (J.Passed k) = rw (s.area, length_same p q s SessionNotFound, length_same p q s NoCause)
+  answer_as_lem t (J.Nak c k) = rw (length_same p q s (Some c))
+  answer_as_lem t (J.Passed k) = rw (s.area, length_same p q s (Some SessionNotFound), length_same p q s None)
 
   table_as_lem : (t : List ℕ) (a : D.Answer) → table_as q t a ≡ table_as p t a
-  table_as_lem t (A.Refused n) = refl
+  table_as_lem t (A.Refused r) = refl
   table_as_lem t (A.Discarded d) = refl
   table_as_lem t (A.Stale k) = refl
   table_as_lem t (A.Nak c k n) = refl
@@ -52,19 +52,19 @@ module _ (p q : List ℕ) (s : SamePacket p q) where
 -- ---- handling
 
 module _ (g : Settings) (t b p : List ℕ) (clock : ℕ) where
-  judged_by : (d : Bool) → eqb (form_of p) 0 ≡ d
+  judged_by : (d : Option Discard) → form_of p ≡ d
       → answer_of (unpadded p) t (verdict_of g (signed_by g.secret (unpadded p)) (unpadded p) clock)
       ≡ answer_of p t (verdict_of g (signed_by g.secret p) p clock)
   unfolding verdict_of
-  judged_by true e =
-      let s = same_formed p (eqb-true (form_of p) 0 e) in
+  judged_by None e =
+      let s = same_formed p e in
       rw (form_same p, e, same_signed p (unpadded p) s g.secret, check_same p (unpadded p) s g clock (signed_by g.secret p))
       (answer_as_lem p (unpadded p) s t (check_verdict g (signed_by g.secret p) p clock))
-  judged_by false e = rw (form_same p, e)
+  judged_by (Some d) e = rw (form_same p, e)
 
   answer_same : handle_answer g t b (unpadded p) clock ≡ handle_answer g t b p clock
   unfolding handle_answer
-  answer_same = rw (judged_by (eqb (form_of p) 0) refl)
+  answer_same = rw (judged_by (form_of p) refl)
 
   pub answer : handle_answer g t b p clock ≡ handle_answer g t b (unpadded p) clock
   answer = sym answer_same
@@ -97,18 +97,18 @@ module _ (g : Settings) (t b p : List ℕ) (clock : ℕ) where
 -- ---- opening
 
 module _ (s : S.Scheduler) (p store : List ℕ) where
-  opened_by : (clock : ℕ) (d : Bool) → eqb (form_of p) 0 ≡ d → open_called s p clock store ≡ open_called s (unpadded p) clock store
+  opened_by : (clock : ℕ) (d : Option Discard) → form_of p ≡ d → open_called s p clock store ≡ open_called s (unpadded p) clock store
   unfolding open_called
-  opened_by clock true e = rw (form_same p, e, (same_formed p (eqb-true (form_of p) 0 e)).long)
-  opened_by clock false e = rw (form_same p, e)
+  opened_by clock None e = rw (form_same p, e, (same_formed p e).long)
+  opened_by clock (Some d) e = rw (form_same p, e)
 
   pub opened : (clock : ℕ) → open_called s p clock store ≡ open_called s (unpadded p) clock store
-  opened clock = opened_by clock (eqb (form_of p) 0) refl
+  opened clock = opened_by clock (form_of p) refl
 
-  stored_by : (d : Bool) → eqb (form_of p) 0 ≡ d → open_store s p store ≡ open_store s (unpadded p) store
+  stored_by : (d : Option Discard) → form_of p ≡ d → open_store s p store ≡ open_store s (unpadded p) store
   unfolding open_store
-  stored_by true e = rw (form_same p, e, (same_formed p (eqb-true (form_of p) 0 e)).long, take-take (length_of p) (length_of p) p (omega arith))
-  stored_by false e = rw (form_same p, e)
+  stored_by None e = rw (form_same p, e, (same_formed p e).long, take-take (length_of p) (length_of p) p (omega arith))
+  stored_by (Some d) e = rw (form_same p, e)
 
   pub stored : open_store s p store ≡ open_store s (unpadded p) store
-  stored = stored_by (eqb (form_of p) 0) refl
+  stored = stored_by (form_of p) refl

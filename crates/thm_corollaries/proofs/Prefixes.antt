@@ -8,6 +8,7 @@ use Prim.Native.Nat.{ℕ, ◌≤◌}
 use native.Mathlib.Omega.{arith}
 use lib.ListN.{length, take, length-take, length-append}
 use lib.Seq.{take-take, take-append-le, length-take-le}
+use Rattle.std.specs.Prelude.{None}
 use Rattle.octet_numbers.specs.Runs.{part}
 use Rattle.packet_form.specs.Packet.{length_of}
 use Rattle.packet_form.specs.Discards.{bad_length, form_of, Sized}
@@ -72,5 +73,5 @@ module _ (p : List ℕ) where
   pub form_same : form_of (unpadded p) ≡ form_of p
   form_same = form_by (bad_length p) refl
 
-  pub same_formed : form_of p ≡ 0 → SamePacket p (unpadded p)
+  pub same_formed : form_of p ≡ None → SamePacket p (unpadded p)
   same_formed good = same_good (form_good p good)

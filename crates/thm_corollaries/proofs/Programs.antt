@@ -1,11 +1,14 @@
 -- Demand 3 over C's own contracts, proved: what a C program holds after each call reads as the next state of the list's run, since the contracts
 -- name the very definitions by which a run goes on; and for runs there is demand 3.
 -- Assumes nothing.
+use mathlib.Core.Bool.{Bool, true, false, cond}
 use mathlib.Core.List.{List, [], ◌∷◌}
 use mathlib.Core.Path.{◌≡◌, refl, sym, ap, ◌∙◌, subst}
 use Prim.Native.Nat.{ℕ}
-use borrow.Author.Tests.{eq-eqb}
-use Rattle.nas_settings.specs.Settings.{Settings}
+use native.Mathlib.Omega.{arith}
+use Rattle.std.specs.Prelude.{Some, None}
+use Rattle.refusals.specs.declared.Refusal.TheVariants as R
+use Rattle.nas_settings.specs.Settings.{Settings, bad_secret, bad_nas_id}
 use Rattle.sched_state.specs.declared.Called as C
 use Rattle.sched_state.specs.Scheduler.{Ours}
 use Rattle.sched_state.specs.Refusals.{make_refusal}
@@ -17,7 +20,7 @@ use Rattle.sched_rows.proofs.ReadOurs.{read_ours}
 use Rattle.sched_rows.proofs.Back.{in_out}
 use Rattle.thm_serial.specs.Demand3.{world, serially}
 use Rattle.thm_serial.proofs.Proved.{demand3}
-use Rattle.thm_corollaries.specs.FromC.{Holds, Event, GivenBy, Promised, AllPromised, calls_of, last_table, SameAs, Program, FromC}
+use Rattle.thm_corollaries.specs.FromC.{Holds, Event, GivenBy, Promised, AllPromised, calls_of, last_table, SameAs, made_number, Program, FromC}
 use Rattle.thm_corollaries.proofs.Arrays.{Fits}
 use Rattle.thm_corollaries.proofs.CallArrays.{Reads, open_reads, step_reads, drop_reads, start_reads, end_reads}
 
@@ -74,16 +77,24 @@ runs h (e ∷ es) f q =
 
 -- ---- from making on
 
+-- the number 0 is no refusal's
+unrefused : (a b : Bool) → made_number (cond a (Some R.SecretLength) (cond b (Some R.NasIdentifierLength) None)) ≡ 0
+    → cond a (Some R.SecretLength) (cond b (Some R.NasIdentifierLength) None) ≡ None
+unrefused true b e = absurd (omega arith)
+unrefused false true e = absurd (omega arith)
+unrefused false false e = refl
+
 module _ (g : Settings) (h : Holds) (es : List Event) (p : Program g h es) where
-  good : make_refusal g ≡ 0
-  good = sym p.made ∙ p.done
+  good : make_refusal g ≡ None
+  unfolding make_refusal
+  good = unrefused (bad_secret g.secret) (bad_nas_id g.nas_id) (sym p.made ∙ p.done)
 
   fresh : Ours (made_of g)
   fresh = (demand3.made g good).0.ours
 
   as_made : h.held ≡ held_of (made_of g)
   unfolding make_left
-  as_made = p.left ∙ rw (eq-eqb _ _ good)
+  as_made = p.left ∙ rw good
 
   state_made : state_of h ≡ world (made_of g) h.table h.store
   state_made = λ i. world ((ap scheduler_in as_made ∙ in_out (made_of g) fresh) i) h.table h.store

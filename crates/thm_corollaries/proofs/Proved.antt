@@ -25,10 +25,10 @@ module _ (s : D.Scheduler) (new : New s) (cs : List Call) (t store : List ℕ) w
         replies_pass = λ j clock b p a note e h.
             let q = step_handles b p clock s new cs t store j note a e in
             rw q.1 (answer_passes (settings_of s) left.table b p clock a q.0 h);
-        written_opens = λ out d r clock k e. opens (settings_of s).secret out d r left clock k e;
-        written_steps = λ out d r j clock k b note e.
-            let q = step_handles b (request_of (settings_of s).secret d) clock s new cs t store j note (A.Discarded k) e in
-            sixth (settings_of s) out d r left.table b clock k q.0;
+        written_opens = λ out d r clock why e. opens (settings_of s).secret out d r left clock why e;
+        written_steps = λ out d r j clock b why note e.
+            let q = step_handles b (request_of (settings_of s).secret d) clock s new cs t store j note (A.Discarded why) e in
+            sixth (settings_of s) out d r left.table b clock why q.0;
       }
 
 pub corollaries : Corollaries

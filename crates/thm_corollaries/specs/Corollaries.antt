@@ -2,11 +2,13 @@
 -- passes our reply check against the packet of its opening; a request from our writer is not discarded when it is opened, and a step discards it
 -- for its stamp alone (D6). And what a call's contract says is the next state of the list's run, so that demand 3 follows from the contracts.
 -- Assumes nothing.
-use Rattle.std.specs.Prelude.{false, List, [], ◌∷◌, ◌≡◌, ℕ, None, Ok}
+use Rattle.std.specs.Prelude.{false, List, [], ◌∷◌, ◌≡◌, ℕ, Option, None, Ok}
+use Rattle.refusals.specs.declared.Discard.{Discard}
+use Rattle.refusals.specs.declared.Discard.TheVariants as R
 use Rattle.octet_numbers.specs.Runs.{write}
 use Rattle.table_records.specs.Record.{Session}
 use Rattle.table_sessions.specs.Session.{insert_table, remove_table}
-use Rattle.rule_causes.specs.declared.Cause.{Cause}
+use Rattle.rule_causes.specs.declared.cause.Cause.{Cause}
 use Rattle.das_reply_parts.specs.Reply.{reply_of}
 use Rattle.das_answer.specs.declared.Answer.{Answer}
 use Rattle.das_answer.specs.declared.Answer.TheVariants as A
@@ -24,7 +26,7 @@ use Rattle.das_answer.specs.Replied.{silent}
 
 -- b is the reply buffer before, r after: it holds a reply to the request p, and that reply passes our check
 pub record Passes (secret p b r : List ℕ) : Type 0 where
-  pub cause : Cause
+  pub cause : Option Cause
   pub written : r ≡ write b 0 (reply_of secret p cause)
   pub right : check_answer secret p (reply_of secret p cause) ≡ Ok tt
 
@@ -35,10 +37,11 @@ pub record After (secret : List ℕ) (w : World) (notes : List Note) : Type 0 wh
       → (call (Step j b) w).out.outcome ≡ Done a → silent a ≡ false → Passes secret p b (call (Step j b) w).out.reply
   -- a request that our writer does not refuse meets none of D1 to D3 at its opening
   pub written_opens : (out : List ℕ) (d : Draft) → write_refusal secret out d ≡ None
-      → (clock k : ℕ) → (call (Open (request_of secret d) clock) w).out.outcome ≡ Discarded k → ⊥
+      → (clock : ℕ) (why : Discard) → (call (Open (request_of secret d) clock) w).out.outcome ≡ Discarded why → ⊥
   -- and none of D1 to D5 in its steps
   pub written_steps : (out : List ℕ) (d : Draft) → write_refusal secret out d ≡ None
-      → (j clock k : ℕ) (b : List ℕ) → note_at notes j ≡ noted (request_of secret d) clock → (call (Step j b) w).out.outcome ≡ Done (A.Discarded k) → k ≡ 6
+      → (j clock : ℕ) (b : List ℕ) (why : Discard) → note_at notes j ≡ noted (request_of secret d) clock
+      → (call (Step j b) w).out.outcome ≡ Done (A.Discarded why) → why ≡ R.Timestamp
 
 -- what the next call takes
 abbrev pub next : C.Called → List ℕ → List ℕ → World
@@ -51,7 +54,8 @@ followed x b t store cs =
 
 -- x, t, b and store are what a call gives back; the premises are its contract
 pub record Chained (w : World) (cs : List Call) : Type 0 where
-  pub opening : (p : List ℕ) (clock : ℕ) (x : C.Called) (store : List ℕ) → x ≡ open_called w.scheduler p clock w.store → store ≡ open_store w.scheduler p w.store
+  pub opening : (p : List ℕ) (clock : ℕ) (x : C.Called) (store : List ℕ)
+      → x ≡ open_called w.scheduler p clock w.store → store ≡ open_store w.scheduler p w.store
       → run (Open p clock ∷ cs) w ≡ followed x [] w.table store cs
   pub stepping : (j : ℕ) (before : List ℕ) (x : C.Called) (t b : List ℕ) → x ≡ step_called w.scheduler j w.table before w.store
       → t ≡ step_table w.scheduler j w.table before w.store → b ≡ step_reply w.scheduler j w.table before w.store

@@ -2,7 +2,9 @@
 -- arrays, the table and the store as the call before left them. The premises are what `capi` promises of the six calls; the conclusion is that
 -- every number given out, every reply buffer and the table are those of the serial execution.
 -- Assumes nothing.
-use Rattle.std.specs.Prelude.{List, [], ◌∷◌, ◌≡◌, ℕ, length}
+use Rattle.std.specs.Prelude.{List, [], ◌∷◌, ◌≡◌, ℕ, length, Option, Some, None}
+use Rattle.refusals.specs.declared.Refusal.{Refusal}
+use Rattle.refusals.specs.Numbers.{refusal_number}
 use Rattle.nas_settings.specs.Settings.{Settings}
 use Rattle.table_sessions.specs.Session.{insert_table, remove_table}
 use Rattle.sched_state.specs.declared.Scheduler as D
@@ -14,7 +16,7 @@ use Rattle.sched_state.specs.Calls.{open_called, open_store, step_called, step_t
 use Rattle.sched_state.specs.Runs.{Call, Open, Step, Drop, Start, End, Out}
 use Rattle.sched_rows.specs.Layout.{Held, held_of, scheduler_in}
 use Rattle.sched_rows.specs.Left.{make_left, open_left, step_left, drop_left, start_left, end_left}
-use Rattle.c_numbers.specs.Numbers.{Told}
+use Rattle.c_numbers.specs.declared.numbers.Told.{Told}
 use Rattle.c_told.specs.Told.{number_by, place_by, told_by}
 use Rattle.thm_serial.specs.Demand3.{serially}
 
@@ -45,7 +47,8 @@ GivenBy (Drop j) o e = e.after.told.answer ≡ number_by o
 GivenBy (Start x) o e = (e.after.told.answer ≡ number_by o) × (e.after.place ≡ place_by o e.before.place)
 GivenBy (End k) o e = e.after.told.answer ≡ number_by o
 
--- what `capi` promises of a call: `fbk_open_lent`, `fbk_step_lent`, `fbk_drop_lent`, `fbk_start_lent`, `fbk_end_lent`. What it is not lent stays as it was
+-- what `capi` promises of a call: `fbk_open_lent`, `fbk_step_lent`, `fbk_drop_lent`, `fbk_start_lent`, `fbk_end_lent`. What it is not lent
+-- stays as it was
 abbrev pub Promised : Call → Holds → Event → Type 0
 Promised (Open p clock) h e =
     GivenBy (Open p clock) (open_called (scheduler_in h.held) p clock h.store).outcome e
@@ -94,12 +97,17 @@ SameAs [] (o ∷ os) = ⊥
 SameAs (e ∷ es) [] = ⊥
 SameAs (e ∷ es) (o ∷ os) = GivenBy e.call o.outcome e × (e.reply ≡ o.reply) × SameAs es os
 
+-- what making tells a program: 0, or the number of its refusal
+abbrev pub made_number : Option Refusal → ℕ
+made_number None = 0
+made_number (Some r) = refusal_number r
+
 -- a program made a scheduler, which was not refused, and called on
 pub record Program (g : Settings) (h : Holds) (es : List Event) : Type 0 where
   pub first : Held
   pub answer : ℕ
   -- what `capi` promises of `fbk_make_lent`
-  pub made : answer ≡ make_refusal g
+  pub made : answer ≡ made_number (make_refusal g)
   pub left : h.held ≡ make_left g first
   pub done : answer ≡ 0
   pub calls : AllPromised h es

@@ -2,7 +2,8 @@
 -- calls. The first and the last are about lists of calls on a newly made scheduler; the others hold of any scheduler, whatever was written to table
 -- and store between the calls.
 -- Assumes nothing.
-use Rattle.std.specs.Prelude.{true, false, List, ◌≡◌, ℕ, ◌+◌, ◌*◌, ◌≤◌, ◌<◌, get_or}
+use Rattle.std.specs.Prelude.{true, false, List, ◌≡◌, ℕ, ◌+◌, ◌*◌, ◌≤◌, ◌<◌, get_or, Ok}
+use Rattle.refusals.specs.declared.Discard.TheVariants as R
 use Rattle.packet_form.specs.Packet.{length_of}
 use Rattle.das_answer.specs.declared.Answer.TheVariants as A
 use Rattle.sched_state.specs.declared.Scheduler as D
@@ -10,8 +11,6 @@ use Rattle.sched_state.specs.declared.Outcome.TheVariants.{Done}
 use Rattle.sched_state.specs.Scheduler.{settings_of, job_at, open_at, lowest_free}
 use Rattle.sched_job.specs.Job.{free_job, restarted}
 use Rattle.table_records.specs.Record.{Session}
-use Rattle.table_sessions.specs.declared.Inserted.TheVariants.{Slot}
-use Rattle.table_sessions.specs.declared.Removed.TheVariants.{Gone}
 use Rattle.table_sessions.specs.Session.{insert_answer, remove_answer}
 use Rattle.sched_state.specs.Runs.{Call, Open, Step, Drop, Start, End, World, call, run}
 use Rattle.thm_serial.specs.Steps.{acks, replies, awaits}
@@ -45,12 +44,13 @@ pub record Laws : Type 0 where
   -- of the steps only an ACK sends others back to slot 0: one that does not end in ACK leaves every other job
   pub step_others : (j : ℕ) (w : World) (b : List ℕ) → acks (call (Step j b) w).out.outcome ≡ false
       → (i : ℕ) → (i ≡ j → ⊥) → job_at (call (Step j b) w).world.scheduler.jobs i ≡ job_at w.scheduler.jobs i
-  -- "An ACK, a session start and a session end each send every other job in Match or awaiting Commit back to slot 0, marks cleared.": `restarted` leaves any other
+  -- "An ACK, a session start and a session end each send every other job in Match or awaiting Commit back to slot 0, marks cleared.":
+  -- `restarted` leaves any other
   pub ack_restarts : (j : ℕ) (w : World) (b : List ℕ) → acks (call (Step j b) w).out.outcome ≡ true
       → (i : ℕ) → (i ≡ j → ⊥) → job_at (call (Step j b) w).world.scheduler.jobs i ≡ restarted (job_at w.scheduler.jobs i)
-  pub start_restarts : (x : Session) (w : World) (k : ℕ) → insert_answer x w.table ≡ Slot k
+  pub start_restarts : (x : Session) (w : World) (k : ℕ) → insert_answer x w.table ≡ Ok k
       → (i : ℕ) → job_at (call (Start x) w).world.scheduler.jobs i ≡ restarted (job_at w.scheduler.jobs i)
-  pub end_restarts : (k : ℕ) (w : World) → remove_answer k w.table ≡ Gone
+  pub end_restarts : (k : ℕ) (w : World) → remove_answer k w.table ≡ Ok tt
       → (i : ℕ) → job_at (call (End k) w).world.scheduler.jobs i ≡ restarted (job_at w.scheduler.jobs i)
   -- "It is free again when a step finishes it.": ACK, NAK or discard
   pub done_frees : (j : ℕ) (w : World) (b : List ℕ) → finished_by (call (Step j b) w).out.outcome ≡ true
@@ -65,4 +65,4 @@ pub record Laws : Type 0 where
   pub drop_store : (j : ℕ) (w : World) → (call (Drop j) w).world.store ≡ w.store
   -- "Without outside writes this never happens.": no step discards as D1, which is what one answers that finds its part of the store altered
   pub never_reread : (s : D.Scheduler) → New s → (cs : List Call) (t store : List ℕ)
-      → (j : ℕ) (b : List ℕ) → (call (Step j b) (run cs (world s t store)).world).out.outcome ≡ Done (A.Discarded 1) → ⊥
+      → (j : ℕ) (b : List ℕ) → (call (Step j b) (run cs (world s t store)).world).out.outcome ≡ Done (A.Discarded R.Length) → ⊥

@@ -42,7 +42,7 @@ pub record Padding : Type 0 where
   -- the output buffer of our writer, as the call left it, is the request with padding after it, and as a request it meets none of D1 to D5
   pub output : (secret out : List ℕ) (d : Draft) → write_refusal secret out d ≡ None → unpadded (write_output secret out d) ≡ request_of secret d
   pub accepted : (secret out : List ℕ) (d : Draft) → write_refusal secret out d ≡ None
-      → (form_of (write_output secret out d) ≡ 0) × (signed_by secret (write_output secret out d) ≡ true)
+      → (form_of (write_output secret out d) ≡ None) × (signed_by secret (write_output secret out d) ≡ true)
       × (bad_mac zeros secret (write_output secret out d) ≡ false)
   -- the reply buffer of our gate, as the call left it, passes our reply check. The gate was given p; q is the same request, whatever its padding
   pub passes : (g : Settings) (t b p q : List ℕ) (clock : ℕ) → silent (handle_answer g t b p clock) ≡ false → unpadded q ≡ unpadded p

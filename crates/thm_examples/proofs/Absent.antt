@@ -27,7 +27,9 @@ module _ (p : List ℕ) (no_80 : any (kind_is 80) (attributes (area_of p)) ≡ f
   no_mac auth secret =
       let l = attributes (area_of p) in
       let z : count_of (kind_is 80) l ≡ 0 = any_none (kind_is 80) l no_80 in
-      let m = only (kind_is 80) (wrong_mac auth secret p) l (omega arith) ∙ ap (on_first (wrong_mac auth secret p)) (not_found (first_of (kind_is 80) l) no_80) in
+      let m =
+      only (kind_is 80) (wrong_mac auth secret p) l (omega arith)
+      ∙ ap (on_first (wrong_mac auth secret p)) (not_found (first_of (kind_is 80) l) no_80) in
       rw (z, m)
 
   pub no_part : (value : List ℕ) → mac_valued (maced p) value ≡ []
@@ -43,7 +45,8 @@ module _ (p : List ℕ) (no_24 : any (kind_is 24) (attributes (area_of p)) ≡ f
   unfolding body_of
   body_rest c = rw no_state
 
-pub length_rest : (p : List ℕ) (c : Option Cause) → any (kind_is 24) (attributes (area_of p)) ≡ false → any (kind_is 80) (attributes (area_of p)) ≡ false
+pub length_rest : (p : List ℕ) (c : Option Cause) → any (kind_is 24) (attributes (area_of p)) ≡ false
+    → any (kind_is 80) (attributes (area_of p)) ≡ false
     → reply_length p c ≡ 20 + (length (cause_part c) + length (proxy_part (area_of p)))
 unfolding reply_length packet_length
 length_rest p c h g = rw (body_rest p h c, no_part p g zeros) (omega (arith, length-append (cause_part c) (proxy_part (area_of p))))

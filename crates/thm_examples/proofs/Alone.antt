@@ -1,5 +1,5 @@
--- Types 55 and 33 alone: attributes do not share bytes and each takes two or more, so where those of types 55 and 33 take all bytes of an area there is no other type;
--- and what no attribute of types 55 and 33 meets, none of the area does. Assumes nothing.
+-- Types 55 and 33 alone: attributes do not share bytes and each takes two or more, so where those of types 55 and 33 take all bytes of an area there
+-- is no other type; and what no attribute of types 55 and 33 meets, none of the area does. Assumes nothing.
 use mathlib.Core.Path.{◌≡◌, refl, ap, ◌∙◌}
 use mathlib.Core.Bool.{Bool, true, false, cond, not, ◌&&◌, ◌||◌, true≢false}
 use mathlib.Core.List.{List, [], ◌∷◌, Memᴰ}
@@ -42,7 +42,8 @@ three_sums (a ∷ l) = omega (arith, one a.kind a.size _ _ refl refl, three_sums
 abbrev Standing : List ℕ → List Attribute → Type 0
 Standing s l = (a : Attribute) → Memᴰ a l → step_at s a.at ≡ Found a (a.at + a.size)
 
-no_bytes : (a : Attribute) (x : Option Attribute) (t : Bool) (n : ℕ) → 2 ≤ a.size → cond t a.size 0 + n ≡ 0 → (n ≡ 0 → found x ≡ false) → found (cond t (Some a) x) ≡ false
+no_bytes : (a : Attribute) (x : Option Attribute) (t : Bool) (n : ℕ) → 2 ≤ a.size → cond t a.size 0 + n ≡ 0 → (n ≡ 0 → found x ≡ false)
+    → found (cond t (Some a) x) ≡ false
 no_bytes a x true n h e ih = absurd (omega arith)
 no_bytes a x false n h e ih = ih (omega arith)
 
@@ -53,7 +54,8 @@ sum_none q s (a ∷ l) f e =
     no_bytes a (first_of q l) (q a) (sum_of q l) p.two e (sum_none q s l (λ b m. f b (Memᴰ.tail m)))
 
 -- the area has n + 6 bytes, n of them of type 33, and 6 or more are of type 55
-pub no_other : (s : List ℕ) (n : ℕ) → length s ≡ n + 6 → bytes_of_type 33 (attributes s) ≡ n → 6 ≤ sum_of (kind_is 55) (attributes s) → any other (attributes s) ≡ false
+pub no_other : (s : List ℕ) (n : ℕ) → length s ≡ n + 6 → bytes_of_type 33 (attributes s) ≡ n → 6 ≤ sum_of (kind_is 55) (attributes s)
+    → any other (attributes s) ≡ false
 no_other s n h e g =
     let l = attributes s in
     sum_none other s l (λ a m. member_stands s 0 a m) (omega (arith, bytes_sum 33 l, three_sums l, total_fits s))
@@ -66,14 +68,17 @@ strange a = other a || empty_of 33 a
 pub none_strange : (l : List Attribute) → any other l ≡ false → any (empty_of 33) l ≡ false → any strange l ≡ false
 none_strange l h g = any_or other (empty_of 33) l ∙ rw (h, g)
 
-module _ (q : Attribute → Bool) (at-55 : (a : Attribute) → a.kind ≡ 55 → q a ≡ false) (at-33 : (a : Attribute) → a.kind ≡ 33 → eqb a.size 2 ≡ false → q a ≡ false) where
-  meets-not : (a : Attribute) (s t e : Bool) → kind_is 55 a ≡ s → kind_is 33 a ≡ t → eqb a.size 2 ≡ e → (not (s || t) || (t && e)) ≡ false → q a ≡ false
+module _ (q : Attribute → Bool) (at-55 : (a : Attribute) → a.kind ≡ 55 → q a ≡ false)
+    (at-33 : (a : Attribute) → a.kind ≡ 33 → eqb a.size 2 ≡ false → q a ≡ false) where
+  meets-not : (a : Attribute) (s t e : Bool) → kind_is 55 a ≡ s → kind_is 33 a ≡ t → eqb a.size 2 ≡ e → (not (s || t) || (t && e)) ≡ false
+      → q a ≡ false
   meets-not a true t e i j k h = at-55 a (eqb-true a.kind 55 i)
   meets-not a false true false i j k h = at-33 a (eqb-true a.kind 33 j) k
   meets-not a false true true i j k h = absurd (true≢false h)
   meets-not a false false e i j k h = absurd (true≢false h)
 
-  by_head : (a : Attribute) (x y : Option Attribute) (t : Bool) → strange a ≡ t → (found x ≡ false → found y ≡ false) → found (cond t (Some a) x) ≡ false → found (cond (q a) (Some a) y) ≡ false
+  by_head : (a : Attribute) (x y : Option Attribute) (t : Bool) → strange a ≡ t → (found x ≡ false → found y ≡ false)
+      → found (cond t (Some a) x) ≡ false → found (cond (q a) (Some a) y) ≡ false
   by_head a x y true e ih h = absurd (true≢false h)
   by_head a x y false e ih h = rw (meets-not a _ _ _ refl refl refl e) (ih h)
 

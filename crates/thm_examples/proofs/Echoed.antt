@@ -1,5 +1,6 @@
--- The large example: Length 4,096 leaves 4,076 bytes of attributes, and the 4,070 bytes of type 33 and the 6 of a usable type 55 are all of them. So cause 402 applies,
--- and the reply is head and authenticator, 20, Error-Cause in the place of type 55, 6, and every Proxy-State as it came, 4,070. Assumes nothing.
+-- The large example: Length 4,096 leaves 4,076 bytes of attributes, and the 4,070 bytes of type 33 and the 6 of a usable type 55 are all of them. So
+-- cause 402 applies, and the reply is head and authenticator, 20, Error-Cause in the place of type 55, 6, and every Proxy-State as it came, 4,070.
+-- Assumes nothing.
 use mathlib.Core.Path.{◌≡◌, refl, ap, ◌∙◌}
 use mathlib.Core.Bool.{Bool, true, false, cond}
 use mathlib.Core.List.{List, [], ◌∷◌, ◌++◌, Memᴰ}
@@ -43,10 +44,12 @@ one_more : (t : Bool) (came rest : List ℕ) (z n : ℕ) → length came ≡ z �
 one_more true came rest z n h g = rw length-append (omega arith)
 one_more false came rest z n h g = omega arith
 
-all_whole : (s : List ℕ) (l : List Attribute) → ((a : Attribute) → Memᴰ a l → step_at s a.at ≡ Found a (a.at + a.size)) → length (proxies_in s l) ≡ bytes_of_type 33 l
+all_whole : (s : List ℕ) (l : List Attribute) → ((a : Attribute) → Memᴰ a l → step_at s a.at ≡ Found a (a.at + a.size))
+    → length (proxies_in s l) ≡ bytes_of_type 33 l
 all_whole s [] f = refl
 all_whole s (a ∷ l) f =
-    one_more (kind_is 33 a) (as_came s a) (proxies_in s l) a.size (bytes_of_type 33 l) (came_whole s a (f a (Memᴰ.head refl))) (all_whole s l (λ b m. f b (Memᴰ.tail m)))
+    one_more (kind_is 33 a) (as_came s a) (proxies_in s l) a.size (bytes_of_type 33 l) (came_whole s a (f a (Memᴰ.head refl)))
+    (all_whole s l (λ b m. f b (Memᴰ.tail m)))
 
 length_proxies : (s : List ℕ) → length (proxy_part s) ≡ bytes_of_type 33 (attributes s)
 unfolding proxy_part
@@ -58,8 +61,10 @@ length_cause = ap (λ (k : ℕ). suc (suc k)) (length-be_bytes 4 _)
 
 -- ---- the packet
 
-module _ (g : Settings) (p : List ℕ) (clock stamp : ℕ) (sized : bad_length p ≡ false) (coded : bad_code p ≡ false) (tiles : tiled (area_of p) ≡ true) (long : length_of p ≡ 4096)
-    (once : count_of (kind_is 55) (attributes (area_of p)) ≡ 1) (echoed : bytes_of_type 33 (attributes (area_of p)) ≡ 4070) (filled : any (empty_of 33) (attributes (area_of p)) ≡ false)
+module _ (g : Settings) (p : List ℕ) (clock stamp : ℕ) (sized : bad_length p ≡ false) (coded : bad_code p ≡ false) (tiles : tiled (area_of p) ≡ true)
+    (long : length_of p ≡ 4096)
+    (once : count_of (kind_is 55) (attributes (area_of p)) ≡ 1) (echoed : bytes_of_type 33 (attributes (area_of p)) ≡ 4070)
+    (filled : any (empty_of 33) (attributes (area_of p)) ≡ false)
     (signed : signed_by g.secret p ≡ true) (usable : stamp_of (area_of p) ≡ Some stamp) (fresh : stale stamp clock ≡ false) where
   alone : any other (attributes (area_of p)) ≡ false
   alone =
@@ -67,7 +72,8 @@ module _ (g : Settings) (p : List ℕ) (clock stamp : ℕ) (sized : bad_length p
       let low = z.low in
       let given = z.given in
       let size : length (area_of p) ≡ length_of p - 20 = length_part 20 (length_of p - 20) p (omega arith) in
-      no_other (area_of p) 4070 (omega arith) echoed (omega (arith, stamp_six (area_of p) stamp usable, first_size (kind_is 55) (attributes (area_of p))))
+      no_other (area_of p) 4070 (omega arith) echoed
+      (omega (arith, stamp_six (area_of p) stamp usable, first_size (kind_is 55) (attributes (area_of p))))
 
   no_24 : any (kind_is 24) (attributes (area_of p)) ≡ false
   no_24 = none_kind (area_of p) alone filled 24 refl refl

@@ -1,5 +1,5 @@
--- An area of types 55, once, and 33, none empty, meets cause 402 and no cause before it: both types are supported and may have their lengths, 55 does not stand
--- twice, and neither is Service-Type, tells the gate's identity or names a session. Assumes nothing.
+-- An area of types 55, once, and 33, none empty, meets cause 402 and no cause before it: both types are supported and may have their lengths, 55
+-- does not stand twice, and neither is Service-Type, tells the gate's identity or names a session. Assumes nothing.
 use mathlib.Core.Path.{◌≡◌, refl}
 use mathlib.Core.Bool.{Bool, true, false, cond, not, ◌||◌, or-true, true≢false}
 use mathlib.Core.List.{List, [], ◌∷◌}
@@ -23,7 +23,8 @@ abbrev Once : (ℕ → Bool) → List Attribute → Type 0
 Once seen l = count_of (kind_is 55) l + cond (seen 55) 1 0 ≤ 1
 
 again : (seen : ℕ → Bool) (a : Attribute) (l : List Attribute) (s t z : Bool) → kind_is 55 a ≡ s → kind_is 33 a ≡ t → seen 55 ≡ z
-    → found (cond (not (s || t)) (Some a) (first_of other l)) ≡ false → cond s (suc (count_of (kind_is 55) l)) (count_of (kind_is 55) l) + cond z 1 0 ≤ 1
+    → found (cond (not (s || t)) (Some a) (first_of other l)) ≡ false
+    → cond s (suc (count_of (kind_is 55) l)) (count_of (kind_is 55) l) + cond z 1 0 ≤ 1
     → ((before : ℕ → Bool) → any other l ≡ false → Once before l → found (first_repeated before l) ≡ false)
     → found (first_repeated seen (a ∷ l)) ≡ false
 again seen a l true t true i j k h g ih = absurd (omega arith)
@@ -42,7 +43,8 @@ once_only seen (a ∷ l) h g = again seen a l _ _ _ refl refl refl h g (λ befor
 -- ---- the causes
 
 module _ (s : List ℕ) (alone : any other (attributes s) ≡ false) (filled : any (empty_of 33) (attributes s) ≡ false) where
-  none_of : (q : Attribute → Bool) → ((a : Attribute) → a.kind ≡ 55 → q a ≡ false) → ((a : Attribute) → a.kind ≡ 33 → eqb a.size 2 ≡ false → q a ≡ false) → any q (attributes s) ≡ false
+  none_of : (q : Attribute → Bool) → ((a : Attribute) → a.kind ≡ 55 → q a ≡ false)
+      → ((a : Attribute) → a.kind ≡ 33 → eqb a.size 2 ≡ false → q a ≡ false) → any q (attributes s) ≡ false
   none_of q f g = none-meets q f g (attributes s) (none_strange (attributes s) alone filled)
 
   all-supported : (code : ℕ) → any (unsupported_in code s) (attributes s) ≡ false
@@ -63,7 +65,8 @@ module _ (s : List ℕ) (alone : any other (attributes s) ≡ false) (filled : a
   none_names : any (among naming_types) (attributes s) ≡ false
   none_names = none_of (among naming_types) (λ a e. rw e) (λ a e h. rw e)
 
-  pub cause_missing : count_of (kind_is 55) (attributes s) ≡ 1 → (code nas_ip : ℕ) (nas_id : List ℕ) → cause_of code nas_ip nas_id s ≡ Some MissingAttribute
+  pub cause_missing : count_of (kind_is 55) (attributes s) ≡ 1 → (code nas_ip : ℕ) (nas_id : List ℕ)
+      → cause_of code nas_ip nas_id s ≡ Some MissingAttribute
   unfolding cause_of invalid missing
   cause_missing once code nas_ip nas_id =
       let single : found (first_repeated none (attributes s)) ≡ false = once_only none (attributes s) alone (omega arith) in

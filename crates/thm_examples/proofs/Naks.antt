@@ -1,5 +1,5 @@
--- A NAK 503 tells the length of its reply, whichever rule gave it, and stands at the buffer's start; without State and type 80 its bytes are head, authenticator,
--- Error-Cause and the Proxy-States. Assumes nothing.
+-- A NAK 503 tells the length of its reply, whichever rule gave it, and stands at the buffer's start; without State and type 80 its bytes are head,
+-- authenticator, Error-Cause and the Proxy-States. Assumes nothing.
 use mathlib.Core.Path.{◌≡◌, refl, ap, ◌∙◌}
 use mathlib.Core.Bool.{Bool, true, false, cond}
 use mathlib.Core.List.{List, [], ◌∷◌, ◌++◌, append-nil}
@@ -33,19 +33,22 @@ use Rattle.thm_examples.proofs.Absent.{no_part, body_rest, length_rest}
 
 -- ---- the length that the answer tells
 
-counted : (p : List ℕ) (k n : ℕ) (skew told : ℤ) (z : Bool) → cond z (A.Nak SessionNotFound skew (reply_length p (Some SessionNotFound))) (A.Ack k skew (reply_length p None)) ≡ A.Nak SessionNotFound told n
+counted : (p : List ℕ) (k n : ℕ) (skew told : ℤ) (z : Bool)
+    → cond z (A.Nak SessionNotFound skew (reply_length p (Some SessionNotFound))) (A.Ack k skew (reply_length p None)) ≡ A.Nak SessionNotFound told n
     → n ≡ reply_length p (Some SessionNotFound)
 counted p k n skew told true h = cc
 counted p k n skew told false h = cc
 
-told_by_lem : (p t : List ℕ) (v : Verdict) (skew : ℤ) (n : ℕ) → answer_of p t v ≡ A.Nak SessionNotFound skew n → n ≡ reply_length p (Some SessionNotFound)
+told_by_lem : (p t : List ℕ) (v : Verdict) (skew : ℤ) (n : ℕ) → answer_of p t v ≡ A.Nak SessionNotFound skew n
+    → n ≡ reply_length p (Some SessionNotFound)
 unfolding count_answer
 told_by_lem p t (J.Discarded d) skew n h = cc
 told_by_lem p t (J.Stale k) skew n h = cc
 told_by_lem p t (J.Nak c k) skew n h = cc
 told_by_lem p t (J.Passed k) skew n h = counted p (match_count (area_of p) t) n k skew (eqb (match_count (area_of p) t) 0) h
 
-not_refused : (p t : List ℕ) (v : Verdict) (r : Option Refusal) (skew : ℤ) (n : ℕ) → unless_refused r (answer_of p t v) ≡ A.Nak SessionNotFound skew n
+not_refused : (p t : List ℕ) (v : Verdict) (r : Option Refusal) (skew : ℤ) (n : ℕ)
+    → unless_refused r (answer_of p t v) ≡ A.Nak SessionNotFound skew n
     → n ≡ reply_length p (Some SessionNotFound)
 not_refused p t v None skew n h = told_by_lem p t v skew n h
 not_refused p t v (Some r) skew n h = cc
@@ -74,11 +77,14 @@ module _ (g : Settings) (t b p : List ℕ) (clock : ℕ) (skew : ℤ) (n : ℕ) 
   body = body_rest p no_24 (Some SessionNotFound) ∙ rw (cause_503, proxies)
 
   bytes : code_of p ≡ 40 → identifier_of p ≡ 7 → reply_of g.secret p (Some SessionNotFound)
-      ≡ (0x2A ∷ 0x07 ∷ 0x00 ∷ 0x1D ∷ []) ++ reply_auth g.secret p (Some SessionNotFound) ++ (0x65 ∷ 0x06 ∷ 0x00 ∷ 0x00 ∷ 0x01 ∷ 0xF7 ∷ 0x21 ∷ 0x03 ∷ 0x41 ∷ [])
-  bytes c i = reply_parts g.secret p (Some SessionNotFound) ∙ rw (no_part p no_80 (reply_mac g.secret p (Some SessionNotFound)), append-nil, head c i, body)
+      ≡ (0x2A ∷ 0x07 ∷ 0x00 ∷ 0x1D ∷ []) ++ reply_auth g.secret p (Some SessionNotFound)
+      ++ (0x65 ∷ 0x06 ∷ 0x00 ∷ 0x00 ∷ 0x01 ∷ 0xF7 ∷ 0x21 ∷ 0x03 ∷ 0x41 ∷ [])
+  bytes c i =
+      reply_parts g.secret p (Some SessionNotFound) ∙ rw (no_part p no_80 (reply_mac g.secret p (Some SessionNotFound)), append-nil, head c i, body)
 
   pub nak_503 : code_of p ≡ 40 → identifier_of p ≡ 7 → (handle_reply g t b p clock
-      ≡ write b 0 ((0x2A ∷ 0x07 ∷ 0x00 ∷ 0x1D ∷ []) ++ reply_auth g.secret p (Some SessionNotFound) ++ (0x65 ∷ 0x06 ∷ 0x00 ∷ 0x00 ∷ 0x01 ∷ 0xF7 ∷ 0x21 ∷ 0x03 ∷ 0x41 ∷ [])))
+      ≡ write b 0 ((0x2A ∷ 0x07 ∷ 0x00 ∷ 0x1D ∷ []) ++ reply_auth g.secret p (Some SessionNotFound)
+      ++ (0x65 ∷ 0x06 ∷ 0x00 ∷ 0x00 ∷ 0x01 ∷ 0xF7 ∷ 0x21 ∷ 0x03 ∷ 0x41 ∷ [])))
       × (length (reply_auth g.secret p (Some SessionNotFound)) ≡ 16) × (n ≡ 29)
   unfolding handle_reply
   nak_503 c i = (ap (reply_as g.secret p b) told ∙ ap (write b 0) (bytes c i), length-reply_auth g.secret p (Some SessionNotFound), told-length)

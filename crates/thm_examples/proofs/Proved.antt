@@ -61,9 +61,11 @@ marked g signed p clock =
       farthest = refl;
       number = refl;
       no_name = λ slot h. rw (h, and-false, and-false);
-      full_echo = λ t b stamp h sized coded tiles long once echoed filled signed usable fresh. echo g p clock stamp sized coded tiles long once echoed filled signed usable fresh t b h;
+      full_echo = λ t b stamp h sized coded tiles long once echoed filled signed usable fresh.
+          echo g p clock stamp sized coded tiles long once echoed filled signed usable fresh t b h;
       session_not_found = λ t b skew n told c i proxies no_24 no_80. nak_503 g t b p clock skew n told no_24 no_80 proxies c i;
-      rate = λ t b m n k skew a ack code first value l h. (down_rate_lem g p clock t b m n k skew a ack code first value l h, up_rate_lem g p clock t b m n k skew a ack code first value l h);
+      rate = λ t b m n k skew a ack code first value l h.
+          (down_rate_lem g p clock t b m n k skew a ack code first value l h, up_rate_lem g p clock t b m n k skew a ack code first value l h);
     }
 
 pub examples : MarkedExamples

@@ -31,8 +31,10 @@ computed : rates_by (vendor_of bytes) ≡ slow
 unfolding vendor_of be rate_of item_of items_from group_in step_at walk_from
 computed = refl
 
-module _ (g : Settings) (p : List ℕ) (clock : ℕ) (t b : List ℕ) (m n k : ℕ) (skew : ℤ) (a : Attribute) (ack : handle_answer g t b p clock ≡ Ack m skew n) (code : code_of p ≡ 43)
-    (first : first_of (kind_is 26) (attributes (area_of p)) ≡ Some a) (value : value_of (area_of p) a ≡ bytes) (l : k < slot_count t) (h : matches_in (area_of p) t k ≡ true) where
+module _ (g : Settings) (p : List ℕ) (clock : ℕ) (t b : List ℕ) (m n k : ℕ) (skew : ℤ) (a : Attribute)
+    (ack : handle_answer g t b p clock ≡ Ack m skew n) (code : code_of p ≡ 43)
+    (first : first_of (kind_is 26) (attributes (area_of p)) ≡ Some a) (value : value_of (area_of p) a ≡ bytes) (l : k < slot_count t)
+    (h : matches_in (area_of p) t k ≡ true) where
   named : rates_named (area_of p) ≡ slow
   unfolding rates_named
   named = ap (rates_at (area_of p)) first ∙ ap (λ (v : List ℕ). rates_by (vendor_of v)) value ∙ computed

@@ -1,4 +1,5 @@
--- Document 01's marked examples as one table, in its order and words, of a packet p at any gate g and clock; D1 to D3 whether it is rightly signed or not.
+-- Document 01's marked examples as one table, in its order and words, of a packet p at any gate g and clock; D1 to D3 whether it is rightly signed
+-- or not.
 -- Assumes nothing.
 use Rattle.std.specs.Prelude.{Bool, true, false, List, [], ◌∷◌, ◌++◌, ◌≡◌, ℕ, ◌+◌, ◌≤◌, ◌<◌, ℤ, pos, neg_ℤ, length, get_or, Some, None}
 use Rattle.octet_numbers.specs.Numbers.{be}
@@ -51,18 +52,22 @@ pub record Marked (g : Settings) (signed : Bool) (p : List ℕ) (clock : ℕ) : 
   -- Length 4,096 with one type 55 and 4,070 bytes of type 33, none empty, rightly signed, fresh and without type 80: NAK 402 of 4,096 bytes.
   -- Of every call that is not refused, where none of D1 to D3 applies; a usable type 55 has the other 6 bytes, so no type 80 has room
   pub full_echo : (t b : List ℕ) (stamp : ℕ) → refusal_of g t b ≡ None → bad_length p ≡ false → bad_code p ≡ false → tiled (area_of p) ≡ true
-      → length_of p ≡ 4096 → count_of (kind_is 55) (attributes (area_of p)) ≡ 1 → bytes_of_type 33 (attributes (area_of p)) ≡ 4070 → any (empty_of 33) (attributes (area_of p)) ≡ false
+      → length_of p ≡ 4096 → count_of (kind_is 55) (attributes (area_of p)) ≡ 1 → bytes_of_type 33 (attributes (area_of p)) ≡ 4070
+      → any (empty_of 33) (attributes (area_of p)) ≡ false
       → signed_by g.secret p ≡ true → stamp_of (area_of p) ≡ Some stamp → stale stamp clock ≡ false
       → handle_answer g t b p clock ≡ Nak MissingAttribute (skew_of stamp clock) 4096
-  -- A whole NAK 503 to Disconnect identifier 7 with Proxy-State 41 (one hex byte), no State, no 80: 2A 07 00 1D, sixteen authenticator bytes, 65 06 00 00 01 F7 21 03 41.
+  -- A whole NAK 503 to Disconnect identifier 7 with Proxy-State 41 (one hex byte), no State, no 80:
+  -- 2A 07 00 1D, sixteen authenticator bytes, 65 06 00 00 01 F7 21 03 41.
   -- It stands at the start of the reply buffer b, and the answer tells its 29 bytes
   pub session_not_found : (t b : List ℕ) (skew : ℤ) (n : ℕ) → handle_answer g t b p clock ≡ Nak SessionNotFound skew n
       → code_of p ≡ 40 → identifier_of p ≡ 7 → proxy_part (area_of p) ≡ 0x21 ∷ 0x03 ∷ 0x41 ∷ []
       → any (kind_is 24) (attributes (area_of p)) ≡ false → any (kind_is 80) (attributes (area_of p)) ≡ false
       → (handle_reply g t b p clock
-      ≡ write b 0 ((0x2A ∷ 0x07 ∷ 0x00 ∷ 0x1D ∷ []) ++ reply_auth g.secret p (Some SessionNotFound) ++ (0x65 ∷ 0x06 ∷ 0x00 ∷ 0x00 ∷ 0x01 ∷ 0xF7 ∷ 0x21 ∷ 0x03 ∷ 0x41 ∷ [])))
+      ≡ write b 0 ((0x2A ∷ 0x07 ∷ 0x00 ∷ 0x1D ∷ []) ++ reply_auth g.secret p (Some SessionNotFound)
+      ++ (0x65 ∷ 0x06 ∷ 0x00 ∷ 0x00 ∷ 0x01 ∷ 0xF7 ∷ 0x21 ∷ 0x03 ∷ 0x41 ∷ [])))
       × (length (reply_auth g.secret p (Some SessionNotFound)) ≡ 16) × (n ≡ 29)
-  -- Of request 01: a CoA with vendor 32473 and the items 03 08 01 06 00 00 FA 00 sets the down rate to 64,000 and leaves the up rate, in every matching session
+  -- Of request 01: a CoA with vendor 32473 and the items 03 08 01 06 00 00 FA 00 sets the down rate to 64,000 and leaves the up rate,
+  -- in every matching session
   pub rate : (t b : List ℕ) (m n k : ℕ) (skew : ℤ) (a : Attribute) → handle_answer g t b p clock ≡ Ack m skew n → code_of p ≡ 43
       → first_of (kind_is 26) (attributes (area_of p)) ≡ Some a
       → value_of (area_of p) a ≡ 0x00 ∷ 0x00 ∷ 0x7E ∷ 0xD9 ∷ 0x03 ∷ 0x08 ∷ 0x01 ∷ 0x06 ∷ 0x00 ∷ 0x00 ∷ 0xFA ∷ 0x00 ∷ []

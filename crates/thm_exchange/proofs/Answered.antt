@@ -1,5 +1,5 @@
--- A reply to a well-formed request passes the check: it is a packet signed over the request's authenticator, its code is the request's plus 1 or 2, its identifier the request's,
--- and its attributes but the last are of types 24, 101 and 33. Assumes nothing.
+-- A reply to a well-formed request passes the check: it is a packet signed over the request's authenticator, its code is the request's plus 1 or 2,
+-- its identifier the request's, and its attributes but the last are of types 24, 101 and 33. Assumes nothing.
 use mathlib.Core.Path.{◌≡◌, refl}
 use mathlib.Core.Bool.{Bool, true, false, cond, ◌||◌}
 use mathlib.Core.List.{List}
@@ -33,25 +33,30 @@ module _ (secret q : List ℕ) (n : ℕ) (c : Option Cause) (sized : Sized q n) 
   unfolding head_of code
   good_length =
       rw (reply_is secret q c)
-      (packet_sized secret (auth_of q) (body_of q c) (maced q) code (identifier_of q) (reply_length q c) (body_plain q c) (length_auth q n sized) (length_is secret q c) short)
+      (packet_sized secret (auth_of q) (body_of q c) (maced q) code (identifier_of q) (reply_length q c) (body_plain q c) (length_auth q n sized)
+      (length_is secret q c) short)
 
   good_attributes : bad_attributes (reply_of secret q c) ≡ false
   unfolding head_of code
   good_attributes =
       rw (reply_is secret q c)
-      (packet-tiled secret (auth_of q) (body_of q c) (maced q) code (identifier_of q) (reply_length q c) (body_plain q c) (length_auth q n sized) (length_is secret q c) short)
+      (packet-tiled secret (auth_of q) (body_of q c) (maced q) code (identifier_of q) (reply_length q c) (body_plain q c) (length_auth q n sized)
+      (length_is secret q c) short)
 
-  good_authenticator : equal_bytes (auth_of (reply_of secret q c)) (authenticator (auth_of q) (reply_of secret q c) (length_of (reply_of secret q c)) secret) ≡ true
+  good_authenticator :
+      equal_bytes (auth_of (reply_of secret q c)) (authenticator (auth_of q) (reply_of secret q c) (length_of (reply_of secret q c)) secret) ≡ true
   unfolding head_of code
   good_authenticator =
       rw (reply_is secret q c)
-      (packet_authentic secret (auth_of q) (body_of q c) (maced q) code (identifier_of q) (reply_length q c) (body_plain q c) (length_auth q n sized) (length_is secret q c) short)
+      (packet_authentic secret (auth_of q) (body_of q c) (maced q) code (identifier_of q) (reply_length q c) (body_plain q c) (length_auth q n sized)
+      (length_is secret q c) short)
 
   good_mac : bad_mac (auth_of q) secret (reply_of secret q c) ≡ false
   unfolding head_of code
   good_mac =
       rw (reply_is secret q c)
-      (packet_mac_lem secret (auth_of q) (body_of q c) (maced q) code (identifier_of q) (reply_length q c) (body_plain q c) (length_auth q n sized) (length_is secret q c) short)
+      (packet_mac_lem secret (auth_of q) (body_of q c) (maced q) code (identifier_of q) (reply_length q c) (body_plain q c) (length_auth q n sized)
+      (length_is secret q c) short)
 
   pub reply_passes : form_of q ≡ None → failure_of secret q (reply_of secret q c) ≡ None
   unfolding failure_of bad_request bad_reply wrong_code wrong_identifier wrong_authenticator

@@ -1,4 +1,5 @@
--- A request reads back as given: its attributes are those given, each at its place, and after them type 80 where it was to be added, whose value is the Message-Authenticator.
+-- A request reads back as given: its attributes are those given, each at its place, and after them type 80 where it was to be added, whose value is
+-- the Message-Authenticator.
 -- Assumes nothing.
 use mathlib.Core.Path.{◌≡◌, refl, sym, ap, ◌∙◌}
 use mathlib.Core.Bool.{Bool, true, false, cond}
@@ -44,7 +45,8 @@ module _ (secret out : List ℕ) (d : Draft) (accepted : write_refusal secret ou
 
   pub written_area : area_of (request_of secret d) ≡ d.given ++ mac_valued d.add (request_mac secret d)
   unfolding request_head
-  written_area = rw (request_is secret d) (signed_area secret zeros d.given d.add d.code d.identifier (request_length d) (length_is d) (request_short d given))
+  written_area =
+      rw (request_is secret d) (signed_area secret zeros d.given d.add d.code d.identifier (request_length d) (length_is d) (request_short d given))
 
   pub written-attributes : attributes (area_of (request_of secret d)) ≡ attributes d.given ++ cond d.add (added d ∷ []) []
   written-attributes =

@@ -26,7 +26,8 @@ use Rattle.thm_exchange.proofs.Requests.{request_is, length_is, request_short, w
 pub length_request : (secret : List ℕ) (d : Draft) → length (request_of secret d) ≡ request_length d
 length_request secret d =
     ap length (request_is secret d)
-    ∙ length-signed secret zeros (d.code ∷ d.identifier ∷ be_bytes 2 (request_length d)) d.given d.add (head_four secret zeros d.given d.add d.code d.identifier (request_length d))
+    ∙ length-signed secret zeros (d.code ∷ d.identifier ∷ be_bytes 2 (request_length d)) d.given d.add
+    (head_four secret zeros d.given d.add d.code d.identifier (request_length d))
     ∙ sym (length_is d)
 
 module _ (secret out : List ℕ) (d : Draft) (accepted : write_refusal secret out d ≡ None) where
@@ -37,7 +38,9 @@ module _ (secret out : List ℕ) (d : Draft) (accepted : write_refusal secret ou
   sized =
       let l = length_request secret d in
       record {
-        is = sym (ap length_of (request_is secret d) ∙ signed-length secret zeros d.given d.add d.code d.identifier (request_length d) (request_short d good));
+        is =
+            sym (ap length_of (request_is secret d) ∙ signed-length secret zeros d.given d.add d.code d.identifier (request_length d)
+            (request_short d good));
         low = rw (length_is d) (packet_low d.given d.add);
         high = request_short d good;
         given = omega arith;
@@ -52,7 +55,8 @@ module _ (secret out : List ℕ) (d : Draft) (accepted : write_refusal secret ou
   first =
       let l = length_request secret d in
       rw (accepted, ← l)
-      (part-written out 0 (request_of secret d) (omega (arith, request_short d good, (taken secret out d accepted).room)) ∙ sym (part_whole (request_of secret d)))
+      (part-written out 0 (request_of secret d) (omega (arith, request_short d good, (taken secret out d accepted).room))
+      ∙ sym (part_whole (request_of secret d)))
 
   same : SamePacket (request_of secret d) (write_output secret out d)
   unfolding part

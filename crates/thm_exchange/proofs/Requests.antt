@@ -1,5 +1,5 @@
--- A request that is not refused fits the gate: R12 leaves a code that D2 takes, R13 attributes that fill their area, have no type 80 and leave room for one; and it is a signed
--- packet. So it meets none of D1 to D5. Assumes nothing.
+-- A request that is not refused fits the gate: R12 leaves a code that D2 takes, R13 attributes that fill their area, have no type 80 and leave room
+-- for one; and it is a signed packet. So it meets none of D1 to D5. Assumes nothing.
 use mathlib.Core.Path.{◌≡◌, refl, sym}
 use mathlib.Core.Bool.{Bool, true, false, not, ◌||◌, false≢true}
 use mathlib.Core.List.{List, ◌∷◌}
@@ -61,10 +61,12 @@ module _ (secret out : List ℕ) (d : Draft) (accepted : write_refusal secret ou
   written_form =
       rw (
         request_is secret d,
-        packet_sized secret zeros d.given d.add d.code d.identifier (request_length d) (plain_given d given) length-zeros (length_is d) (request_short d given),
+        packet_sized secret zeros d.given d.add d.code d.identifier (request_length d) (plain_given d given) length-zeros (length_is d)
+            (request_short d given),
         signed_code secret zeros d.given d.add d.code d.identifier (request_length d),
         (taken secret out d accepted).code,
-        packet-tiled secret zeros d.given d.add d.code d.identifier (request_length d) (plain_given d given) length-zeros (length_is d) (request_short d given),
+        packet-tiled secret zeros d.given d.add d.code d.identifier (request_length d) (plain_given d given) length-zeros (length_is d)
+            (request_short d given),
       )
 
   -- D4
@@ -72,10 +74,12 @@ module _ (secret out : List ℕ) (d : Draft) (accepted : write_refusal secret ou
   unfolding signed_by
   written-signed =
       rw (request_is secret d)
-      (packet_authentic secret zeros d.given d.add d.code d.identifier (request_length d) (plain_given d given) length-zeros (length_is d) (request_short d given))
+      (packet_authentic secret zeros d.given d.add d.code d.identifier (request_length d) (plain_given d given) length-zeros (length_is d)
+      (request_short d given))
 
   -- D5
   pub written-maced : bad_mac zeros secret (request_of secret d) ≡ false
   written-maced =
       rw (request_is secret d)
-      (packet_mac_lem secret zeros d.given d.add d.code d.identifier (request_length d) (plain_given d given) length-zeros (length_is d) (request_short d given))
+      (packet_mac_lem secret zeros d.given d.add d.code d.identifier (request_length d) (plain_given d given) length-zeros (length_is d)
+      (request_short d given))

@@ -14,17 +14,13 @@ fn digit(n: u8) -> u8
 }
 
 // A digest in hexadecimal, with the end of the line.
-fn hex(d: &[u8]) -> [u8; 33]
-    requires { length d.now ≡ 16 }
+fn hex(d: &[u8; 16]) -> [u8; 33]
     ensures { result ≡ hex_line d.now }
 {
     let mut out = [10u8; 33];
-    let mut i: usize = 0;
-    while i < 16 {
-        let x = d[i];
-        out[2 * i] = digit(x / 16);
-        out[2 * i + 1] = digit(x % 16);
-        i += 1;
+    for i in 0..16 {
+        out[2 * i] = digit(d[i] / 16);
+        out[2 * i + 1] = digit(d[i] % 16);
     }
     out
 }

@@ -13,13 +13,13 @@ returns-then-open_at-clause-rows_after c = search (rules, open_left_lem)
 pub returns-clause-value : goal.returns-clause-value
 returns-clause-value c =
     elim c.else-j-lt4.branch [
-      else-j-lt4-via-then-j-lt4+else-open_at w ↦ search (rules, free_number)
-    | else-j-lt4-via-else-j-lt4 w ↦ search (rules, above_number)
+      | else-j-lt4-via-then-j-lt4+else-open_at w ↦ search (rules, free_number)
+      | else-j-lt4-via-else-j-lt4 w ↦ search (rules, above_number)
     ]
 
 pub returns-clause-rows_after : goal.returns-clause-rows_after
 returns-clause-rows_after c =
     elim c.else-j-lt4.branch [
-      else-j-lt4-via-then-j-lt4+else-open_at w ↦ search (rules, free_left)
-    | else-j-lt4-via-else-j-lt4 w ↦ search (rules, above_left)
+      | else-j-lt4-via-then-j-lt4+else-open_at w ↦ search (rules, free_left)
+      | else-j-lt4-via-else-j-lt4 w ↦ search (rules, above_left)
     ]

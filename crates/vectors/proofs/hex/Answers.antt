@@ -1,14 +1,10 @@
 -- `vectors::hex` meets its contract: after i turns the digits of i bytes stand.
 use borrow.Author.Rules.{rules}
-use native.Mathlib.Omega.{arith}
 use Rattle.vectors.proofs.Digits.{hex_none, hex_more, hex_all}
 use Rattle.vectors.proofs.hex.Goals as goal
 
 pub loop-i-init : goal.loop-i-init
 loop-i-init c = search (rules, hex_none)
-
-pub digit-requires : goal.digit-requires
-digit-requires c = omega (arith, c.shared_slice_known-in-loop-i-1.given c.loop-i.i)
 
 pub loop-i-preserved : goal.loop-i-preserved
 loop-i-preserved c = search (rules, hex_more)

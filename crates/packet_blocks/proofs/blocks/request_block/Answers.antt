@@ -5,4 +5,6 @@ use Rattle.packet_blocks.proofs.Built.{block_laid}
 use Rattle.packet_blocks.proofs.blocks.request_block.Goals as goal
 
 pub returns : goal.returns
-returns c = block_laid _ _ _ _ _ (search rules) (search rules) _ _ _ _ _ c.lay_packet.ensures c.lay.ensures c.lay_padding.ensures refl refl refl (search rules)
+returns c =
+    block_laid _ _ _ _ _ (search rules) (search rules) _ _ _ _ _ c.lay_packet.ensures c.lay.ensures c.lay_padding.ensures refl refl refl
+    (search rules)

@@ -1,6 +1,6 @@
 -- `sched_reread::check::check` meets its contract: the store is read again first, then the words decide, then the verdict.
 use borrow.Author.Rules.{rules}
-use Rattle.sched_reread.proofs.Stored.{store_gone, store_unsigned, store_held, store_reply}
+use Rattle.sched_reread.proofs.Stored.{store_gone, store_unsigned, store_held}
 use Rattle.sched_reread.proofs.check.check.Goals as goal
 
 pub returns-in_default-clause-value : goal.returns-in_default-clause-value
