@@ -19,33 +19,24 @@ use Rattle.dac_check.specs.declared.Unfit.TheVariants as U
 use Rattle.dac_write.specs.Writer.{Draft, bad_given, write_refusal, request_length, request_of, answer_by, output_by, write_answer, write_output}
 use Rattle.dac_check.specs.ReplyCheck.{failure_of, fit_by, check_answer}
 use Rattle.thm_demands.specs.Demand1.{Exchanging}
+use Rattle.thm_demands.proofs.Cascades.{OneOf, none_of, one_more}
 
 -- ---- the writer
 
--- where there is a refusal, its number is one of the writer's
-abbrev OfWriter : Option Refusal → Type 0
-OfWriter None = Unit {0}
-OfWriter (Some n) = member (refusal_number n) (2 ∷ 4 ∷ 12 ∷ 13 ∷ []) ≡ true
-
-one_of : (a b c e : Bool)
-    → OfWriter (cond a (Some R.SecretLength) (cond b (Some R.OutputRoom) (cond c (Some R.RequestCode) (cond e (Some R.GivenAttributes) None))))
-one_of true b c e = refl
-one_of false true c e = refl
-one_of false false true e = refl
-one_of false false false true = refl
-one_of false false false false = tt
-
 module _ (secret out : List ℕ) (d : Draft) where
-  refusal_one : OfWriter (write_refusal secret out d)
+  refusal_one : OneOf refusal_number (2 ∷ 4 ∷ 12 ∷ 13 ∷ []) (write_refusal secret out d)
   unfolding write_refusal
-  refusal_one = one_of (bad_secret secret) (ltb (length out) 4096) (not (eqb d.code 40 || eqb d.code 43)) (bad_given d)
+  refusal_one =
+      one_more refusal_number (bad_secret secret) R.SecretLength _ _
+      (one_more refusal_number (ltb (length out) 4096) R.OutputRoom _ _
+      (one_more refusal_number (not (eqb d.code 40 || eqb d.code 43)) R.RequestCode _ _
+      (one_more refusal_number (bad_given d) R.GivenAttributes _ _ (none_of refusal_number))))
 
-  by_answer : (x : Option Refusal) (n : Refusal) (written : List ℕ) → OfWriter x → answer_by x (request_length d) ≡ Err n
+  by_answer : (x : Option Refusal) (n : Refusal) (written : List ℕ) → OneOf refusal_number (2 ∷ 4 ∷ 12 ∷ 13 ∷ []) x
+      → answer_by x (request_length d) ≡ Err n
       → (member (refusal_number n) (2 ∷ 4 ∷ 12 ∷ 13 ∷ []) ≡ true) × (x ≡ Some n) × (output_by x out written ≡ out)
   by_answer None n written one e = cc
-  by_answer (Some r) n written one e =
-      let same : r ≡ n = cc in
-      (subst (λ (x : Refusal). member (refusal_number x) (2 ∷ 4 ∷ 12 ∷ 13 ∷ []) ≡ true) same one, cc, refl)
+  by_answer (Some r) n written one e = let same : Some r ≡ Some n = cc in (one.found n same, same, refl)
 
   write_refusals : (n : Refusal) → write_answer secret out d ≡ Err n
       → (member (refusal_number n) (2 ∷ 4 ∷ 12 ∷ 13 ∷ []) ≡ true) × (write_refusal secret out d ≡ Some n) × (write_output secret out d ≡ out)

@@ -1,17 +1,19 @@
 -- Demand 1 of whole requests: the lowest refusal that applies is given before anything is judged, and where none does, the discard of the verdict.
 -- So a refused answer has that number, a discard is the verdict's, and neither writes table or reply buffer.
 -- Assumes nothing.
-use mathlib.Core.Path.{◌≡◌, refl, sym, ap, subst, ◌∙◌}
-use mathlib.Core.Bool.{Bool, true, false, cond, false≢true}
+use mathlib.Core.Path.{◌≡◌, refl, ap, subst, ◌∙◌}
+use mathlib.Core.Bool.{Bool, true, false, cond}
 use mathlib.Core.List.{List, [], ◌∷◌}
 use Prim.Native.Nat.{ℕ}
-use borrow.Author.Tests.{eqb-false, eq-eqb, ne_eqb}
 use lib.Dec.{eqb, ltb}
 use lib.IntN.{ℤ}
 use lib.ListN.{length}
-use Rattle.octet_numbers.specs.Runs.{member}
+use Rattle.std.specs.Prelude.{Option, Some, None}
+use Rattle.refusals.specs.declared.Refusal.{Refusal}
+use Rattle.refusals.specs.declared.Refusal.TheVariants as B
+use Rattle.refusals.specs.Numbers.{refusal_number}
 use Rattle.table_slots.specs.Slot.{slot_count}
-use Rattle.rule_causes.specs.declared.Cause.TheVariants.{SessionNotFound}
+use Rattle.rule_causes.specs.declared.cause.Cause.TheVariants.{SessionNotFound}
 use Rattle.rule_verdict.specs.declared.Verdict as R
 use Rattle.rule_verdict.specs.declared.Verdict.TheVariants as J
 use Rattle.packet_form.specs.Packet.{area_of}
@@ -24,99 +26,62 @@ use Rattle.das_answer.specs.declared.Answer.TheVariants as A
 use Rattle.das_answer.specs.Commit.{count_answer}
 use Rattle.das_answer.specs.Replies.{reply_as}
 use Rattle.das_handle.specs.Refusals.{refusal_of}
-use Rattle.das_handle.specs.Handle.{answer_of, table_as, handle_answer, handle_table, handle_reply}
+use Rattle.das_handle.specs.Handle.{answer_of, unless_refused, table_as, handle_answer, handle_table, handle_reply}
 use Rattle.thm_demands.specs.Demand1.{Handling}
-use Rattle.thm_demands.proofs.Cascades.{none_of, one_more}
-use Rattle.thm_demands.proofs.DiscardNumbers.{Among, verdict-among}
+use Rattle.thm_demands.proofs.Cascades.{OneOf, none_of, one_more}
+use Rattle.thm_demands.proofs.DiscardNumbers.{one_of_six}
 
-abbrev is_refused : D.Answer → Bool
-is_refused (A.Refused n) = true
-is_refused (A.Discarded d) = false
-is_refused (A.Stale k) = false
-is_refused (A.Nak c k n) = false
-is_refused (A.Ack m k n) = false
+-- an answer back to what it comes from: a refusal to the refusal r, a discard to its verdict x
+abbrev ComesOf : Option Refusal → R.Verdict → D.Answer → Type 0
+ComesOf r x (A.Refused n) = r ≡ Some n
+ComesOf r x (A.Discarded d) = x ≡ J.Discarded d
+ComesOf r x (A.Stale k) = x ≡ J.Stale k
+ComesOf r x (A.Nak c k n) = Unit {0}
+ComesOf r x (A.Ack m k n) = Unit {0}
 
-abbrev refused_as : D.Answer → ℕ
-refused_as (A.Refused n) = n
-refused_as (A.Discarded d) = 0
-refused_as (A.Stale k) = 0
-refused_as (A.Nak c k n) = 0
-refused_as (A.Ack m k n) = 0
+back_count : (r : Option Refusal) (x : R.Verdict) (n : ℕ) (k : ℤ) (b : Bool) (i j : ℕ)
+    → ComesOf r x (cond b (A.Nak SessionNotFound k i) (A.Ack n k j))
+back_count r x n k true i j = tt
+back_count r x n k false i j = tt
 
--- an answer back to its verdict
-abbrev DiscardedAs : D.Answer → R.Verdict → Type 0
-DiscardedAs (A.Refused n) x = Unit {0}
-DiscardedAs (A.Discarded d) x = x ≡ J.Discarded d
-DiscardedAs (A.Stale k) x = x ≡ J.Stale k
-DiscardedAs (A.Nak c k n) x = Unit {0}
-DiscardedAs (A.Ack m k n) x = Unit {0}
-
-back_count : (p : List ℕ) (n : ℕ) (k : ℤ) (b : Bool) (i j : ℕ) (x : R.Verdict) → DiscardedAs (cond b (A.Nak SessionNotFound k i) (A.Ack n k j)) x
-back_count p n k true i j x = tt
-back_count p n k false i j x = tt
-
-back : (p t : List ℕ) (x : R.Verdict) → DiscardedAs (answer_of p t x) x
+back : (p t : List ℕ) (r : Option Refusal) (x : R.Verdict) → ComesOf r x (answer_of p t x)
 unfolding count_answer
-back p t (J.Discarded d) = refl
-back p t (J.Stale k) = refl
-back p t (J.Nak c k) = tt
-back p t (J.Passed k) = back_count p (match_count (area_of p) t) k (eqb (match_count (area_of p) t) 0) _ _ (J.Passed k)
+back p t r (J.Discarded d) = refl
+back p t r (J.Stale k) = refl
+back p t r (J.Nak c k) = tt
+back p t r (J.Passed k) = back_count r (J.Passed k) (match_count (area_of p) t) k (eqb (match_count (area_of p) t) 0) _ _
 
-none_count : (n : ℕ) (k : ℤ) (b : Bool) (i j : ℕ) → is_refused (cond b (A.Nak SessionNotFound k i) (A.Ack n k j)) ≡ false
-none_count n k true i j = refl
-none_count n k false i j = refl
+by_refusal : (p t : List ℕ) (r : Option Refusal) (x : R.Verdict) → ComesOf r x (unless_refused r (answer_of p t x))
+by_refusal p t None x = back p t None x
+by_refusal p t (Some n) x = refl
 
-none_refused : (p t : List ℕ) (x : R.Verdict) → is_refused (answer_of p t x) ≡ false
-unfolding count_answer
-none_refused p t (J.Discarded d) = refl
-none_refused p t (J.Stale k) = refl
-none_refused p t (J.Nak c k) = refl
-none_refused p t (J.Passed k) = none_count (match_count (area_of p) t) k (eqb (match_count (area_of p) t) 0) _ _
-
--- ---- refused
-
-is_number : (p t : List ℕ) (x : R.Verdict) (r n : ℕ) (b : Bool) → eqb r 0 ≡ b → cond b (answer_of p t x) (A.Refused r) ≡ A.Refused n → (n ≡ r) × (r ≡ 0 → ⊥)
-is_number p t x r n true h e = absurd (false≢true (sym (none_refused p t x) ∙ ap is_refused e))
-is_number p t x r n false h e = (sym (ap refused_as e), eqb-false _ _ h)
-
-refusal_one : (g : Settings) (t b : List ℕ) → (refusal_of g t b ≡ 0 → ⊥) → member (refusal_of g t b) (1 ∷ 2 ∷ 3 ∷ 4 ∷ []) ≡ true
+refusal_one : (g : Settings) (t b : List ℕ) → OneOf refusal_number (1 ∷ 2 ∷ 3 ∷ 4 ∷ []) (refusal_of g t b)
 unfolding refusal_of
 refusal_one g t b =
-    (one_more 1 (eqb (slot_count t) 0) _ _
-    (one_more 2 (bad_secret g.secret) _ _
-    (one_more 3 (bad_nas_id g.nas_id) _ _
-    (one_more 4 (ltb (length b) 4096) _ _ none_of)))
-    ).found
-
--- ---- discarded
-
-by_back : (p t : List ℕ) (x : R.Verdict) (r : ℕ) (a : D.Answer) (b : Bool) → cond b (answer_of p t x) (A.Refused r) ≡ a → DiscardedAs a x
-by_back p t x r a true e = subst (λ (y : D.Answer). DiscardedAs y x) e (back p t x)
-by_back p t x r a false e = subst (λ (y : D.Answer). DiscardedAs y x) e tt
-
-among_of : (x : R.Verdict) (d : ℕ) (l : List ℕ) → x ≡ J.Discarded d → Among l x → member d l ≡ true
-among_of x d l e h = rw e at h
+    one_more refusal_number (eqb (slot_count t) 0) B.TableLength _ _
+    (one_more refusal_number (bad_secret g.secret) B.SecretLength _ _
+    (one_more refusal_number (bad_nas_id g.nas_id) B.NasIdentifierLength _ _
+    (one_more refusal_number (ltb (length b) 4096) B.OutputRoom _ _ (none_of refusal_number))))
 
 module _ (g : Settings) (t b p : List ℕ) (clock : ℕ) where
-  verdict_of_lem : (a : D.Answer) → handle_answer g t b p clock ≡ a → DiscardedAs a (verdict_of g (signed_by g.secret p) p clock)
+  comes_of : (a : D.Answer) → handle_answer g t b p clock ≡ a → ComesOf (refusal_of g t b) (verdict_of g (signed_by g.secret p) p clock) a
   unfolding handle_answer
-  verdict_of_lem a e = by_back p t (verdict_of g (signed_by g.secret p) p clock) (refusal_of g t b) a (eqb (refusal_of g t b) 0) e
+  comes_of a e =
+      let x = verdict_of g (signed_by g.secret p) p clock in
+      subst (ComesOf (refusal_of g t b) x) e (by_refusal p t (refusal_of g t b) x)
 
-  number_of : (n : ℕ) → handle_answer g t b p clock ≡ A.Refused n → (n ≡ refusal_of g t b) × (refusal_of g t b ≡ 0 → ⊥)
-  unfolding handle_answer
-  number_of n e = is_number p t (verdict_of g (signed_by g.secret p) p clock) (refusal_of g t b) n (eqb (refusal_of g t b) 0) refl e
-
-  kept : (a : D.Answer) → handle_answer g t b p clock ≡ a → (handle_table g t b p clock ≡ table_as p t a) × (handle_reply g t b p clock ≡ reply_as g.secret p b a)
+  kept : (a : D.Answer) → handle_answer g t b p clock ≡ a
+      → (handle_table g t b p clock ≡ table_as p t a) × (handle_reply g t b p clock ≡ reply_as g.secret p b a)
   unfolding handle_table handle_reply
   kept a e = (ap (table_as p t) e, ap (reply_as g.secret p b) e)
 
-  pub refused : (refusal_of g t b ≡ 0 → ⊥) → handle_answer g t b p clock ≡ A.Refused (refusal_of g t b)
+  pub refused : (n : Refusal) → refusal_of g t b ≡ Some n → handle_answer g t b p clock ≡ A.Refused n
   unfolding handle_answer
-  refused h = rw (ne_eqb _ _ h)
+  refused n h = rw h
 
-  pub judged : refusal_of g t b ≡ 0 → handle_answer g t b p clock ≡ answer_of p t (verdict_of g (signed_by g.secret p) p clock)
+  pub judged : refusal_of g t b ≡ None → handle_answer g t b p clock ≡ answer_of p t (verdict_of g (signed_by g.secret p) p clock)
   unfolding handle_answer
-  judged h = rw (eq-eqb _ _ h)
+  judged h = rw h
 
   pub handling : Handling g t b p clock
   handling =
@@ -124,9 +89,10 @@ module _ (g : Settings) (t b p : List ℕ) (clock : ℕ) where
         refused = refused;
         discarded = λ z d e. judged z ∙ ap (answer_of p t) e;
         found_stale = λ z k e. judged z ∙ ap (answer_of p t) e;
-        refusals = λ n e. let q = number_of n e in (rw q.0 (refusal_one g t b q.1), q.0);
-        discards = λ d e. let x = verdict_of_lem (A.Discarded d) e in (among_of _ d (1 ∷ 2 ∷ 3 ∷ 4 ∷ 5 ∷ 6 ∷ []) x (verdict-among g p clock (signed_by g.secret p)), x);
-        stale = λ k e. verdict_of_lem (A.Stale k) e;
+        refusals = λ n e. let r = comes_of (A.Refused n) e in
+            ((refusal_one g t b).found n r, r);
+        discards = λ d e. (one_of_six d, comes_of (A.Discarded d) e);
+        stale = λ k e. comes_of (A.Stale k) e;
         refused_kept = λ n e. kept (A.Refused n) e;
         discarded_kept = λ d e. kept (A.Discarded d) e;
         stale_kept = λ k e. kept (A.Stale k) e;

@@ -55,7 +55,8 @@ module _ (g : Settings) (t b p : List ℕ) (clock : ℕ) where
   unfolding handle_reply
   reply_of_lem a e = ap (reply_as g.secret p b) e
 
-  module _ (m n : ℕ) (skew : ℤ) (ack : handle_answer g t b p clock ≡ A.Ack m skew n) (k : ℕ) (l : k < slot_count t) (h : matches_in (area_of p) t k ≡ true) where
+  module _ (m n : ℕ) (skew : ℤ) (ack : handle_answer g t b p clock ≡ A.Ack m skew n) (k : ℕ) (l : k < slot_count t)
+      (h : matches_in (area_of p) t k ≡ true) where
     after : (code : ℕ) → code_of p ≡ code → handle_table g t b p clock ≡ change_matching code (area_of p) t
     after code e = table_of (A.Ack m skew n) ack ∙ rw e
 
@@ -78,10 +79,10 @@ module _ (g : Settings) (t b p : List ℕ) (clock : ℕ) where
           idle_same = λ e. E.idle_same (area_of p) t k l h e;
           filter = λ a e. E.filter_after (area_of p) t k l h a e (filter_first (code_of p) g.nas_ip g.nas_id (area_of p) no-cause 11 a e refl);
           filter_same = λ e. E.filter_same (area_of p) t k l h e;
-          down = λ v e y. E.down_after (area_of p) t k l h v (Q.down_set (area_of p) v e) (Q.down_below (area_of p) v y e);
-          down_same = λ e. E.down_same (area_of p) t k l h (Q.down_unset (area_of p) e);
-          up = λ v e y. E.up_after (area_of p) t k l h v (Q.up_set (area_of p) v e) (Q.up_below (area_of p) v y e);
-          up_same = λ e. E.up_same (area_of p) t k l h (Q.up_unset (area_of p) e);
+          down = λ v e y. E.down_after (area_of p) t k l h v e (Q.down_below (area_of p) v y e);
+          down_same = λ e. E.down_same (area_of p) t k l h e;
+          up = λ v e y. E.up_after (area_of p) t k l h v e (Q.up_below (area_of p) v y e);
+          up_same = λ e. E.up_same (area_of p) t k l h e;
           port_same = E.port_same (area_of p) t k l h;
           address_same = E.address_same (area_of p) t k l h;
           user_same = E.user_same (area_of p) t k l h;
@@ -99,7 +100,8 @@ judging g t b p clock =
       refused = refused g t b p clock;
       judged = judged g t b p clock;
       silent_table = λ h. table_of g t b p clock (handle_answer g t b p clock) refl ∙ silent_table_by p t (handle_answer g t b p clock) h;
-      silent_reply = λ h. reply_of_lem g t b p clock (handle_answer g t b p clock) refl ∙ silent_reply_by g.secret p b (handle_answer g t b p clock) h;
+      silent_reply =
+          λ h. reply_of_lem g t b p clock (handle_answer g t b p clock) refl ∙ silent_reply_by g.secret p b (handle_answer g t b p clock) h;
       nak_table = λ c skew n e. table_of g t b p clock (A.Nak c skew n) e;
       nak_reply = λ c skew n e. reply_of_lem g t b p clock (A.Nak c skew n) e;
       ack_reply = λ m skew n e. reply_of_lem g t b p clock (A.Ack m skew n) e;

@@ -3,22 +3,22 @@
 -- g is what the gate is set up with, t the table, b the reply buffer, p the request, clock the clock reading. The code's contract is these
 -- definitions.
 -- Assumes nothing.
-use Rattle.std.specs.Prelude.{true, false, cond, List, ◌++◌, ◌≡◌, ℕ, ◌+◌, ◌≤◌, ◌<◌, ℤ, length, get_or, replicate, Some, None, Ok}
+use Rattle.std.specs.Prelude.{true, false, cond, List, ◌++◌, ◌≡◌, ℕ, ◌+◌, ◌≤◌, ◌<◌, ℤ, length, get_or, replicate, Option, Some, None, is_some, Ok}
 use Rattle.octet_numbers.specs.Numbers.{be}
 use Rattle.octet_numbers.specs.Runs.{write}
 use Rattle.attr_walk.specs.declared.Attribute.{Attribute}
 use Rattle.attr_walk.specs.Attributes.{attributes, value_of, first_of, kind_is}
 use Rattle.packet_auth.specs.Signing.{zeros, authenticator}
-use Rattle.table_slots.specs.Slot.{slot_count, slot, live, nas_port, framed_address, session_timeout, idle_timeout, user_name, session_id, calling_station, filter_id, down_rate, up_rate}
+use Rattle.table_slots.specs.Slot.{slot_count, slot, live, nas_port, framed_address, session_timeout, idle_timeout, user_name, session_id}
+use Rattle.table_slots.specs.Slot.{calling_station, filter_id, down_rate, up_rate}
 use Rattle.table_change.specs.Change.{altered}
-use Rattle.rule_causes.specs.declared.Cause.{Cause}
-use Rattle.rule_causes.specs.declared.Cause.TheVariants.{NoCause}
+use Rattle.refusals.specs.declared.Refusal.{Refusal}
+use Rattle.rule_causes.specs.declared.cause.Cause.{Cause}
 use Rattle.packet_form.specs.Packet.{code_of, identifier_of, length_of, auth_of, area_of}
 use Rattle.nas_settings.specs.Settings.{Settings}
 use Rattle.packet_form.specs.Discards.{form_of}
 use Rattle.packet_mac.specs.Discards.{bad_mac}
 use Rattle.rule_verdict.specs.Discards.{signed_by}
-use Rattle.rule_causes.specs.Causes.{applies}
 use Rattle.rule_verdict.specs.Verdict.{verdict_of}
 use Rattle.packet_write.specs.Packets.{mac_valued}
 use Rattle.das_reply_parts.specs.Reply.{state_part, cause_part, proxy_part, maced, reply_mac, reply_of}
@@ -58,9 +58,9 @@ pub record Altered (area s s' : List ℕ) : Type 0 where
   pub station_same : calling_station s' ≡ calling_station s
   pub still_live : live s' ≡ true
 
--- a reply r to the request p, of an ACK (NoCause) or of the NAK with this cause
-pub record Carries (secret p r : List ℕ) (c : Cause) : Type 0 where
-  pub code : code_of r ≡ code_of p + cond (applies c) 2 1
+-- a reply r to the request p, of an ACK (None) or of the NAK with this cause
+pub record Carries (secret p r : List ℕ) (c : Option Cause) : Type 0 where
+  pub code : code_of r ≡ code_of p + cond (is_some c) 2 1
   pub identifier : identifier_of r ≡ identifier_of p
   pub authentic : auth_of r ≡ authenticator (auth_of p) r (length_of r) secret
   -- the first State, Error-Cause on NAK, every Proxy-State in order, and type 80 if the request had one
@@ -71,19 +71,21 @@ pub record Carries (secret p r : List ℕ) (c : Cause) : Type 0 where
 -- one request, handled whole
 pub record Judging (g : Settings) (t b p : List ℕ) (clock : ℕ) : Type 0 where
   -- a refusal comes before any judgement; else the verdict of D1 to D6 and causes 1 to 6, and after it cause 7, decide
-  pub refused : (refusal_of g t b ≡ 0 → ⊥) → handle_answer g t b p clock ≡ Refused (refusal_of g t b)
-  pub judged : refusal_of g t b ≡ 0 → handle_answer g t b p clock ≡ answer_of p t (verdict_of g (signed_by g.secret p) p clock)
+  pub refused : (n : Refusal) → refusal_of g t b ≡ Some n → handle_answer g t b p clock ≡ Refused n
+  pub judged : refusal_of g t b ≡ None → handle_answer g t b p clock ≡ answer_of p t (verdict_of g (signed_by g.secret p) p clock)
   -- a discard or a refusal leaves table and reply as they were; a NAK leaves the table
   pub silent_table : silent (handle_answer g t b p clock) ≡ true → handle_table g t b p clock ≡ t
   pub silent_reply : silent (handle_answer g t b p clock) ≡ true → handle_reply g t b p clock ≡ b
   pub nak_table : (c : Cause) (skew : ℤ) (n : ℕ) → handle_answer g t b p clock ≡ Nak c skew n → handle_table g t b p clock ≡ t
   -- the reply stands at the buffer's start, the bytes after it stay, its length is the one told, and it is never longer than the request
-  pub nak_reply : (c : Cause) (skew : ℤ) (n : ℕ) → handle_answer g t b p clock ≡ Nak c skew n → handle_reply g t b p clock ≡ write b 0 (reply_of g.secret p c)
-  pub ack_reply : (m : ℕ) (skew : ℤ) (n : ℕ) → handle_answer g t b p clock ≡ Ack m skew n → handle_reply g t b p clock ≡ write b 0 (reply_of g.secret p NoCause)
-  pub nak_size : (c : Cause) (skew : ℤ) (n : ℕ) → handle_answer g t b p clock ≡ Nak c skew n → length (reply_of g.secret p c) ≡ n
-  pub ack_size : (m : ℕ) (skew : ℤ) (n : ℕ) → handle_answer g t b p clock ≡ Ack m skew n → length (reply_of g.secret p NoCause) ≡ n
+  pub nak_reply : (c : Cause) (skew : ℤ) (n : ℕ) → handle_answer g t b p clock ≡ Nak c skew n
+      → handle_reply g t b p clock ≡ write b 0 (reply_of g.secret p (Some c))
+  pub ack_reply : (m : ℕ) (skew : ℤ) (n : ℕ) → handle_answer g t b p clock ≡ Ack m skew n
+      → handle_reply g t b p clock ≡ write b 0 (reply_of g.secret p None)
+  pub nak_size : (c : Cause) (skew : ℤ) (n : ℕ) → handle_answer g t b p clock ≡ Nak c skew n → length (reply_of g.secret p (Some c)) ≡ n
+  pub ack_size : (m : ℕ) (skew : ℤ) (n : ℕ) → handle_answer g t b p clock ≡ Ack m skew n → length (reply_of g.secret p None) ≡ n
   pub never_longer : reply_size (handle_answer g t b p clock) ≤ length_of p
-  pub carries : silent (handle_answer g t b p clock) ≡ false → (c : Cause) → Carries g.secret p (reply_of g.secret p c) c
+  pub carries : silent (handle_answer g t b p clock) ≡ false → (c : Option Cause) → Carries g.secret p (reply_of g.secret p c) c
   -- an ACK: the count is that of the matching live slots, and all others stay
   pub count : (m : ℕ) (skew : ℤ) (n : ℕ) → handle_answer g t b p clock ≡ Ack m skew n → m ≡ match_count (area_of p) t
   pub others : (k : ℕ) → k < slot_count t → matches_in (area_of p) t k ≡ false → slot k (handle_table g t b p clock) ≡ slot k t
@@ -96,8 +98,10 @@ pub record Judging (g : Settings) (t b p : List ℕ) (clock : ℕ) : Type 0 wher
 
 pub record Demand2 : Type 0 where
   pub judging : (g : Settings) (t b p : List ℕ) (clock : ℕ) → Judging g t b p clock
-  -- a request that our writer does not refuse stands at the output's start, its length is the one told, and it never meets D1 to D5 under the same secret
+  -- a request that our writer does not refuse stands at the output's start, its length is the one told, and it never meets D1 to D5 under the
+  -- same secret
   pub written : (secret out : List ℕ) (d : Draft) → write_refusal secret out d ≡ None
       → (write_answer secret out d ≡ Ok (length (request_of secret d))) × (write_output secret out d ≡ write out 0 (request_of secret d))
   pub accepted : (secret out : List ℕ) (d : Draft) → write_refusal secret out d ≡ None
-      → (form_of (request_of secret d) ≡ 0) × (signed_by secret (request_of secret d) ≡ true) × (bad_mac zeros secret (request_of secret d) ≡ false)
+      → (form_of (request_of secret d) ≡ None) × (signed_by secret (request_of secret d) ≡ true)
+      × (bad_mac zeros secret (request_of secret d) ≡ false)
