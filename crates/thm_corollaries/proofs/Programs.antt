@@ -18,9 +18,10 @@ use Rattle.sched_rows.specs.Layout.{Held, held_of, scheduler_in}
 use Rattle.sched_rows.specs.Left.{make_left}
 use Rattle.sched_rows.proofs.ReadOurs.{read_ours}
 use Rattle.sched_rows.proofs.Back.{in_out}
+use Rattle.c_numbers.specs.Numbers.{refused_number}
 use Rattle.thm_serial.specs.Demand3.{world, serially}
 use Rattle.thm_serial.proofs.Proved.{demand3}
-use Rattle.thm_corollaries.specs.FromC.{Holds, Event, GivenBy, Promised, AllPromised, calls_of, last_table, SameAs, made_number, Program, FromC}
+use Rattle.thm_corollaries.specs.FromC.{Holds, Event, GivenBy, Promised, AllPromised, calls_of, last_table, SameAs, Program, FromC}
 use Rattle.thm_corollaries.proofs.Arrays.{Fits}
 use Rattle.thm_corollaries.proofs.CallArrays.{Reads, open_reads, step_reads, drop_reads, start_reads, end_reads}
 
@@ -78,7 +79,7 @@ runs h (e ∷ es) f q =
 -- ---- from making on
 
 -- the number 0 is no refusal's
-unrefused : (a b : Bool) → made_number (cond a (Some R.SecretLength) (cond b (Some R.NasIdentifierLength) None)) ≡ 0
+unrefused : (a b : Bool) → refused_number (cond a (Some R.SecretLength) (cond b (Some R.NasIdentifierLength) None)) ≡ 0
     → cond a (Some R.SecretLength) (cond b (Some R.NasIdentifierLength) None) ≡ None
 unrefused true b e = absurd (omega arith)
 unrefused false true e = absurd (omega arith)

@@ -2,9 +2,7 @@
 -- arrays, the table and the store as the call before left them. The premises are what `capi` promises of the six calls; the conclusion is that
 -- every number given out, every reply buffer and the table are those of the serial execution.
 -- Assumes nothing.
-use Rattle.std.specs.Prelude.{List, [], ◌∷◌, ◌≡◌, ℕ, length, Option, Some, None}
-use Rattle.refusals.specs.declared.Refusal.{Refusal}
-use Rattle.refusals.specs.Numbers.{refusal_number}
+use Rattle.std.specs.Prelude.{List, [], ◌∷◌, ◌≡◌, ℕ, length}
 use Rattle.nas_settings.specs.Settings.{Settings}
 use Rattle.table_sessions.specs.Session.{insert_table, remove_table}
 use Rattle.sched_state.specs.declared.Scheduler as D
@@ -17,6 +15,7 @@ use Rattle.sched_state.specs.Runs.{Call, Open, Step, Drop, Start, End, Out}
 use Rattle.sched_rows.specs.Layout.{Held, held_of, scheduler_in}
 use Rattle.sched_rows.specs.Left.{make_left, open_left, step_left, drop_left, start_left, end_left}
 use Rattle.c_numbers.specs.declared.numbers.Told.{Told}
+use Rattle.c_numbers.specs.Numbers.{refused_number}
 use Rattle.c_told.specs.Told.{number_by, place_by, told_by}
 use Rattle.thm_serial.specs.Demand3.{serially}
 
@@ -97,17 +96,12 @@ SameAs [] (o ∷ os) = ⊥
 SameAs (e ∷ es) [] = ⊥
 SameAs (e ∷ es) (o ∷ os) = GivenBy e.call o.outcome e × (e.reply ≡ o.reply) × SameAs es os
 
--- what making tells a program: 0, or the number of its refusal
-abbrev pub made_number : Option Refusal → ℕ
-made_number None = 0
-made_number (Some r) = refusal_number r
-
 -- a program made a scheduler, which was not refused, and called on
 pub record Program (g : Settings) (h : Holds) (es : List Event) : Type 0 where
   pub first : Held
   pub answer : ℕ
   -- what `capi` promises of `fbk_make_lent`
-  pub made : answer ≡ made_number (make_refusal g)
+  pub made : answer ≡ refused_number (make_refusal g)
   pub left : h.held ≡ make_left g first
   pub done : answer ≡ 0
   pub calls : AllPromised h es
