@@ -11,9 +11,10 @@ use crate::{Job, Stage};
 use attr_survey::Survey;
 use packet_form::Packet;
 
-fn matches(survey: &Survey, t: &[u8], k: usize) -> bool
-    requires { found (first_repeated none (attributes survey.now.area.now)) ≡ false }
-    ensures { result ≡ matches_in survey.now.area.now t.now k }
+fn matches(packet: &Packet, survey: &Survey, t: &[u8], k: usize) -> bool
+    requires area_is { survey.now.area.now ≡ area_of packet.now.bytes.now }
+    requires once { found (first_repeated none (attributes (area_of packet.now.bytes.now))) ≡ false }
+    ensures { result ≡ matches_in (area_of packet.now.bytes.now) t.now k }
 {
     let criteria = das_effects::criteria(&survey.noted);
     table_match::match_slot(t, k, survey.area, &criteria)
@@ -30,7 +31,7 @@ impl Job {
     {
         let next = k + 1;
         let mut marks = self.marks;
-        if matches(survey, t, k) {
+        if matches(packet, survey, t, k) {
             marks[k] = 1;
         }
         Job {
