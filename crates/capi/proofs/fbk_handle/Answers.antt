@@ -6,5 +6,5 @@ use Rattle.capi.proofs.fbk_handle.Goals as goal
 pub returns-clause-stamped_after : goal.returns-clause-stamped_after
 returns-clause-stamped_after c = search (rules, answer-told)
 
-pub tell-requires : goal.tell-requires
-tell-requires c = search (rules, answer_small)
+pub tell-told-requires : goal.tell-told-requires
+tell-told-requires c = search (rules, answer_small)
