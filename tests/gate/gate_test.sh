@@ -105,7 +105,8 @@ for gone in Need-loop-holds InvT-loop MeasureT-loop; do
     try "an edit where $gone is gone, and another error is better" 0 '15 passed, 0 failed' EDIT_SAYS='refused, as it must be: note: src/lib.rt:8:1: it is not proved'
 done
 try 'an edit that puts another call in its place' $bad "$of_edits 0 passed, 1 failed)" EDIT_SAYS="$unsaid: ${at}record \`made.After-g\` has no field \`f\`"
-try 'an edit that is refused without a word why' 0 '15 passed, 0 failed' EDIT_SAYS='refused, as it must be'
+try 'an edit that is refused without a word why' $bad "$of_edits 0 passed, 1 failed)" EDIT_SAYS='refused, as it must be'
+told 'that no reason is given' 'shows nothing, rt gives no reason'
 broke="${at}antt ran out of stack"
 one_at_limit='; must-fail edits: 1 refused, 1 of them only by a limit'
 try 'an edit at which the prover only broke off' $bad "$of_edits 0 passed, 1 failed)" EDIT_SAYS="$at_limit: $broke" OK_SAYS="$one_at_limit"
