@@ -5,7 +5,7 @@ ghost use Rattle.std.specs.Prelude.{◌≡◌, ◌≤◌};
 ghost use Rattle.attr_survey.specs.Noted.{noted_at, seen_at};
 ghost use Rattle.attr_lookup.specs.Lookup.{kept_start, kept_place, kept_size, kept_value};
 
-use attr_survey::{Noted, Survey};
+use attr_survey::Noted;
 
 // Whether the pass met an attribute of this type. Of type 33 it kept nothing.
 pub fn has(noted: &[Noted; 256], kind: u8) -> bool
@@ -50,12 +50,8 @@ pub fn size_of(noted: &[Noted; 256], kind: u8) -> usize
 }
 
 // Its value; empty where there is none.
-pub fn value_of<'a>(survey: &Survey<'a>, kind: u8) -> &'a [u8]
-    ensures { result.now ≡ kept_value survey.now.area.now kind survey.now.noted }
+pub fn value_of<'a>(s: &'a [u8], noted: &[Noted; 256], kind: u8) -> &'a [u8]
+    ensures { result.now ≡ kept_value s.now kind noted.now }
 {
-    octet_runs::slice(
-        survey.area,
-        place_of(&survey.noted, kind),
-        size_of(&survey.noted, kind),
-    )
+    octet_runs::slice(s, place_of(noted, kind), size_of(noted, kind))
 }

@@ -12,7 +12,7 @@ pub fn other_value(survey: &Survey, kind: u8, own: &[u8]) -> bool
     ensures { result ≡ differs_at survey.now.area.now survey.now.noted kind own.now }
 {
     if has(&survey.noted, kind) {
-        return !octet_runs::equal(value_of(survey, kind), own);
+        return !octet_runs::equal(value_of(survey.area, &survey.noted, kind), own);
     }
     false
 }

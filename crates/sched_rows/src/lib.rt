@@ -16,9 +16,9 @@ pub struct Rows<'a> {
 // What was fixed when the scheduler was made, as in sched_state's Scheduler.
 #[derive(Clone, Copy, Debug, PartialEq, Eq)]
 pub struct Made<'a> {
-    pub secret: &'a [u8; 64],
+    pub secret: &'a [u8],
     pub secret_size: usize,
     pub nas_ip: u32,
-    pub nas_id: &'a [u8; 32],
+    pub nas_id: &'a [u8],
     pub nas_id_size: usize,
 }

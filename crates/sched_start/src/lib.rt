@@ -15,7 +15,7 @@ use table_records::Session;
 
 // R1, R8, R9, R10, or a session in the lowest free slot.
 pub fn start(
-    words: &[[u32; 4]; 4],
+    words: &[[u32; 4]],
     kinds: &[[u32; 2]; 4],
     places: &mut [[usize; 2]; 4],
     marks: &mut [[u8; 64]; 4],
@@ -41,7 +41,7 @@ pub fn start(
 
 // R1, R11, or the session of slot k is gone.
 pub fn end(
-    words: &[[u32; 4]; 4],
+    words: &[[u32; 4]],
     kinds: &[[u32; 2]; 4],
     places: &mut [[usize; 2]; 4],
     marks: &mut [[u8; 64]; 4],

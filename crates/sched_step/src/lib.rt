@@ -54,6 +54,7 @@ pub fn step(
     store: &[u8],
     old: Told,
 ) -> Told
+    requires { (length made.now.secret.now ≡ 64) × (length made.now.nas_id.now ≡ 32) }
     ensures same { SameRows rows.old rows.new }
     ensures value { result ≡ told_by (step_called (scheduler_in (held_by rows.old made.now)) j t.old reply.old store.now).outcome old }
     ensures rows_after { held_by rows.new made.now ≡ step_left (held_by rows.old made.now) j t.old reply.old store.now }
