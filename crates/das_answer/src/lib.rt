@@ -53,7 +53,7 @@ pub fn commit(
     ensures t_after { t.new ≡ commit_table request.now.packet.bytes.now marks.now t.old }
     ensures reply_after { reply.new ≡ reply_as secret.now request.now.packet.bytes.now reply.old (commit_answer request.now.packet.bytes.now marks.now t.old skew) }
 {
-    let change = das_effects::change(&request.survey);
+    let change = das_effects::change(request.packet.code(), &request.survey);
     let changed = table_change::change_marked(t, request.survey.area, marks, change);
     if changed == 0 {
         return nak(reply, request, secret, Cause::SessionNotFound, skew);

@@ -50,13 +50,13 @@ fn alteration(survey: &Survey) -> Alteration
     }
 }
 
-// What happens to the sessions that a surveyed request names.
+// What happens to the sessions that a surveyed request of this code names.
 #[tactic(auto, unfolding(crate::specs::Changes::change_of))]
-pub fn change(survey: &Survey) -> Change
+pub fn change(code: u8, survey: &Survey) -> Change
     requires { any misfitting (attributes survey.now.area.now) ≡ false }
-    ensures { result ≡ change_of survey.now.code survey.now.area.now }
+    ensures { result ≡ change_of code survey.now.area.now }
 {
-    if survey.code == 40 {
+    if code == 40 {
         return Change::End;
     }
     Change::Alter(alteration(survey))

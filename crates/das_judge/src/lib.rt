@@ -4,6 +4,7 @@
 ghost use Rattle.std.specs.Prelude.{◌≡◌, ◌≤◌, length, None};
 ghost use Rattle.attr_survey.specs.Survey.{Flagged};
 ghost use Rattle.nas_settings.specs.Settings.{gate_settings};
+ghost use Rattle.packet_form.specs.Packet.{code_of};
 ghost use Rattle.packet_form.specs.Discards.{form_of};
 ghost use Rattle.rule_verdict.specs.Verdict.{check_verdict};
 ghost use Rattle.das_judge.specs.Judged.{judged_as, reply_judged};
@@ -22,6 +23,7 @@ fn judged(
     clock: u32,
     reply: &mut [u8],
 ) -> Result<i64, Answer>
+    requires code_value { request.now.survey.code ≡ code_of request.now.packet.bytes.now }
     requires flagged { Flagged request.now.survey.area.now request.now.survey.code request.now.survey.flags }
     requires room { 4096 ≤ length reply.old }
     ensures value { result ≡ judged_as request.now.packet.bytes.now (check_verdict (gate_settings gate.now) «signed» request.now.packet.bytes.now clock) }

@@ -72,7 +72,7 @@ module _ (p s : List ℕ) (c : Option Cause) (area : s ≡ area_of p) where
 
       -- l is the buffer before the calls
       pub replied : (n : ℕ) → Sized p n → (secret auth l t₁ t₂ t₃ t₄ : List ℕ) → auth ≡ auth_of p → reply_length p c ≤ 4096 → 4096 ≤ length l
-          → t₁ ≡ write l 20 (state_part s ++ cause_part c ++ proxy_part s) → t₂ ≡ write t₁ b (mac_room present) → t₃ ≡ write t₂ 0 (head_of p c ++ auth_of p)
+          → t₁ ≡ write l 20 (state_part s ++ cause_part c ++ proxy_part s) → t₂ ≡ write t₁ b (mac_room present) → t₃ ≡ write t₂ 0 (head_of p c ++ auth)
           → t₄ ≡ write (with_mac present auth t₃ e secret) 4 (authenticator auth (with_mac present auth t₃ e secret) e secret) → t₄ ≡ write l 0 (reply_of secret p c)
       unfolding reply_length reply_of packet packet_length
       replied n sized secret auth l t₁ t₂ t₃ t₄ ea h g e₁ e₂ e₃ e₄ =
@@ -80,7 +80,7 @@ module _ (p s : List ℕ) (c : Option Cause) (area : s ≡ area_of p) where
           let w₂ : t₂ ≡ write l 20 (body_of p c ++ mac_valued (maced p) zeros) = write_then t₁ t₂ l 20 b (body_of p c) (mac_valued (maced p) zeros) (e₁ ∙ rw body_is) (e₂ ∙ rw room_is) (hb ∙ rw body_is) in
           let front : 20 ≡ 0 + length (head_of p c ++ auth_of p) = omega (arith, length-append (head_of p c) (auth_of p), length_head p c, sixteen) in
           let w₃ : t₃ ≡ write l 0 (packet (head_of p c) (body_of p c) (maced p) (auth_of p) zeros) =
-          write_before t₂ t₃ l 0 20 (head_of p c ++ auth_of p) (body_of p c ++ mac_valued (maced p) zeros) w₂ e₃ front ∙ rw (← (append_assoc (head_of p c ++ auth_of p))) in
+          write_before t₂ t₃ l 0 20 (head_of p c ++ auth_of p) (body_of p c ++ mac_valued (maced p) zeros) w₂ (e₃ ∙ rw ea) front ∙ rw (← (append_assoc (head_of p c ++ auth_of p))) in
           sealed secret (auth_of p) (head_of p c) (body_of p c) l (maced p) (length_head p c) sixteen (omega arith)
           present t₃ (with_mac present (auth_of p) t₃ e secret) t₄ present_is w₃ (rw end_is) (e₄ ∙ rw (ea, end_is))
 

@@ -25,7 +25,7 @@ pub fn write_reply(
     let present = attr_lookup::has(&request.survey.noted, MESSAGE_AUTHENTICATOR);
     let body = das_reply_parts::put_body(&mut *reply, &request.survey, cause);
     let e = packet_write::put_room(&mut *reply, body, present);
-    das_reply_parts::put_head(&mut *reply, &request.packet, cause, e);
+    das_reply_parts::put_head(&mut *reply, &request.packet, cause, e, &auth);
     packet_write::seal::put_seals(reply, e, &auth, secret, present);
     e
 }

@@ -5,7 +5,7 @@ ghost use Rattle.std.specs.Prelude.{◌≡◌, cond, ◌++◌, ◌+◌, ◌≤�
 ghost use Rattle.octet_numbers.specs.Runs.{write};
 ghost use Rattle.attr_walk.specs.Attributes.{step_at};
 ghost use Rattle.attr_walk.specs.declared.Step.TheVariants.{Found};
-ghost use Rattle.packet_form.specs.Packet.{code_of, auth_of};
+ghost use Rattle.packet_form.specs.Packet.{code_of};
 ghost use Rattle.das_reply_parts.specs.Reply.{as_came, state_part, cause_part, proxy_part, reply_length, head_of};
 
 use attr_survey::Survey;
@@ -104,14 +104,13 @@ fn added(cause: Option<Cause>) -> u8
     1
 }
 
-// Code, identifier and Length n, and the authenticator of the request in packet.
+// Code, identifier and Length n, and the request's authenticator.
 #[tactic(auto, using(crate::proofs::Pieces::head_written))]
-pub fn put_head(t: &mut [u8], packet: &Packet, cause: Option<Cause>, n: usize)
+pub fn put_head(t: &mut [u8], packet: &Packet, cause: Option<Cause>, n: usize, auth: &[u8; 16])
     requires in_bounds { (20 ≤ length t.old) × (code_of packet.now.bytes.now < 64) }
     requires n_value { (n ≡ reply_length packet.now.bytes.now cause) × (n ≤ 4096) }
-    ensures { t.new ≡ write t.old 0 (head_of packet.now.bytes.now cause ++ auth_of packet.now.bytes.now) }
+    ensures { t.new ≡ write t.old 0 (head_of packet.now.bytes.now cause ++ auth.now) }
 {
-    let auth = packet.authenticator();
     let code = packet.code() + added(cause);
-    packet_write::put_front(t, code, packet.identifier(), n, &auth);
+    packet_write::put_front(t, code, packet.identifier(), n, auth);
 }

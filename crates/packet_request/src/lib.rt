@@ -16,7 +16,6 @@ pub struct Request<'a> {
     pub survey: Survey<'a>,
     pub ghost formed: { form_of packet.bytes.now ≡ None },
     pub ghost area_is: { survey.area.now ≡ area_of packet.bytes.now },
-    pub ghost code_is: { survey.code ≡ code_of packet.bytes.now },
 }
 
 impl<'a> Request<'a> {
@@ -24,6 +23,7 @@ impl<'a> Request<'a> {
     pub fn of(packet: Packet<'a>) -> Request<'a>
         requires { form_of packet.bytes.now ≡ None }
         ensures packet_value { result.packet ≡ packet.entry }
+        ensures code_value { result.survey.code ≡ code_of packet.entry.bytes.now }
         ensures flagged { Flagged result.survey.area.now result.survey.code result.survey.flags }
     {
         let survey = Survey::of(packet.area(), packet.code());

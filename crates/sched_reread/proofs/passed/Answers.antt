@@ -12,7 +12,7 @@ returns-in_err-stamp c = search (rules, gone_stamp)
 
 pub invariant_of-result : goal.invariant_of-result
 invariant_of-result c =
-    record { stands = stands (gate_settings c.args.gate.now) c.args.n c.args.q.now (search rules) _ _ (search rules) c.of-request.result.area_is _ c.stamp_of.ensures _ (search rules) _ c.of-request.result.code_is _ c.unobjected.ensures c.if-unobjected.true }
+    record { stands = stands (gate_settings c.args.gate.now) c.args.n c.args.q.now (search rules) _ _ (search rules) c.of-request.result.area_is _ c.stamp_of.ensures _ (search rules) _ (search rules) _ c.unobjected.ensures c.if-unobjected.true }
 
 pub returns-then-unobjected : goal.returns-then-unobjected
 returns-then-unobjected c = search (rules, shown)
