@@ -4,11 +4,11 @@
 pub mod check; // check.rt: Check
 mod shown; // shown.rt: the request that the store still shows
 
-ghost use Rattle.std.specs.Prelude.{◌≡◌, true, false, not, ◌&&◌, eqb, is_none, None, MatchOption};
+ghost use Rattle.std.specs.Prelude.{◌≡◌, true, false, not, ◌&&◌, eqb, List, ℕ, is_none, None, MatchOption};
 ghost use Rattle.attr_walk.specs.Attributes.{attributes, any};
 ghost use Rattle.attr_survey.specs.Survey.{Flagged};
 ghost use Rattle.attr_survey.specs.Noted.{noted_at, seen_at};
-ghost use Rattle.nas_settings.specs.Settings.{gate_settings};
+ghost use Rattle.nas_settings.specs.Settings.{settings};
 ghost use Rattle.rule_causes.specs.Causes.{cause_of};
 ghost use Rattle.packet_form.specs.Discards.{form_of};
 ghost use Rattle.sched_reread.specs.Reread.{holds, odd_mac, holds_passed};
@@ -56,9 +56,9 @@ fn unobjected(survey: &Survey, gate: &Gate) -> bool
     plain_mac(survey)
 }
 
-// The store read again for Match and Commit.
+// The store read again for Match and Commit. The secret plays no part in it.
 pub fn passed<'a>(n: usize, q: &'a [u8], gate: &Gate) -> Option<Shown<'a>>
-    ensures { MatchOption result (holds_passed (gate_settings gate.now) n q.now ≡ false) (λ x. (x.request.packet.bytes.now ≡ q.now) × (holds_passed (gate_settings gate.now) n q.now ≡ true)) }
+    ensures { MatchOption result ((secret : List ℕ) → holds_passed (settings secret gate.now.nas_ip gate.now.nas_id.now) n q.now ≡ false) (λ x. (x.request.packet.bytes.now ≡ q.now) × ((secret : List ℕ) → holds_passed (settings secret gate.now.nas_ip gate.now.nas_id.now) n q.now ≡ true)) }
 {
     let packet = held(n, q)?;
     let request = Request::of(packet);
