@@ -3,10 +3,11 @@ ghost use Rattle.std.specs.Prelude.{◌≡◌};
 ghost use Rattle.attr_survey.specs.Noted.{noted_at, seen_at, note_at};
 
 // What a pass keeps of the attributes of a type: how many there are, 2 for any more, and end and length of the first.
+// Fields lie in this order: with the end first it takes four bytes.
 #[derive(Clone, Copy, Debug, PartialEq, Eq)]
 pub struct Noted {
-    pub number: u8,
     pub end: u16,
+    pub number: u8,
     pub size: u8,
 }
 

@@ -40,8 +40,8 @@ pub struct Survey<'a> {
     pub code: u8,
     pub flags: Flags,
     // For each type but 33, which may repeat.
-    pub noted: [Noted; 256],
-    pub ghost kept: { Kept area.now noted },
+    pub noted: &'a [Noted; 256],
+    pub ghost kept: { Kept area.now noted.now },
 }
 
 // Surveys the area of a request of this code by types and lengths.
@@ -95,16 +95,16 @@ fn with_vendors(s: &[u8], code: u8, noted: &mut [Noted; 256]) -> Flags
 }
 
 impl<'a> Survey<'a> {
-    // One pass over the area of a request of this code.
+    // One pass over the area of a request of this code. What it notes stands where the caller lends it, so that it is not copied when a survey is handed on.
     #[tactic(auto, unfolding(crate::specs::Noted::blank))]
-    pub fn of(area: &'a [u8], code: u8) -> Survey<'a>
+    pub fn of(area: &'a [u8], code: u8, noted: &'a mut [Noted; 256]) -> Survey<'a>
         requires { length area.now ≤ 4096 }
         ensures area_value { result.area.now ≡ area.now }
         ensures code_value { result.code ≡ code }
         ensures flagged { Flagged area.now code result.flags }
     {
-        let mut noted = [NONE; 256];
-        let flags = with_vendors(area, code, &mut noted);
+        *noted = [NONE; 256];
+        let flags = with_vendors(area, code, &mut *noted);
         Survey {
             area,
             code,
