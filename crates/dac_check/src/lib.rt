@@ -96,7 +96,8 @@ fn failure(secret: &[u8], request: &[u8], reply: &[u8]) -> Result<(), Mismatch>
         return Err(Mismatch::Reply);
     }
     let r = Packet::sized(reply);
-    let survey = Survey::of(r.area(), r.code());
+    let mut noted = [attr_survey::NONE; 256];
+    let survey = Survey::of(r.area(), r.code(), &mut noted);
     if !survey.flags.tiled {
         return Err(Mismatch::Reply);
     }

@@ -44,7 +44,7 @@ fn alteration(survey: &Survey) -> Alteration
     Alteration {
         timeout: number(survey, SESSION_TIMEOUT),
         idle: number(survey, IDLE_TIMEOUT),
-        filter: value_span(&survey.noted, FILTER_ID),
+        filter: value_span(survey.noted, FILTER_ID),
         down,
         up,
     }

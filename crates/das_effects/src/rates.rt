@@ -20,8 +20,8 @@ fn rates_by(x: Vendor) -> Rates
 pub fn named(survey: &Survey) -> Rates
     ensures { result ≡ rates_named survey.now.area.now }
 {
-    if attr_lookup::has(&survey.noted, VENDOR_SPECIFIC) {
-        let value = attr_lookup::value_of(survey.area, &survey.noted, VENDOR_SPECIFIC);
+    if attr_lookup::has(survey.noted, VENDOR_SPECIFIC) {
+        let value = attr_lookup::value_of(survey.area, survey.noted, VENDOR_SPECIFIC);
         return rates_by(attr_vendor::vendor_of(value));
     }
     UNSET

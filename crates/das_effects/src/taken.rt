@@ -32,9 +32,9 @@ pub fn criterion(noted: &[Noted; 256], field: Field, kind: u8) -> Option<Criteri
 
 // The number that a CoA sets by it.
 pub fn number(survey: &Survey, kind: u8) -> Option<u32>
-    requires { (v : Span) → taken_value kind survey.now.noted ≡ Some v → v.at + 4 ≤ length survey.now.area.now }
-    ensures { result ≡ taken_number survey.now.area.now kind survey.now.noted }
+    requires { (v : Span) → taken_value kind survey.now.noted.now ≡ Some v → v.at + 4 ≤ length survey.now.area.now }
+    ensures { result ≡ taken_number survey.now.area.now kind survey.now.noted.now }
 {
-    let value = value_span(&survey.noted, kind)?;
+    let value = value_span(survey.noted, kind)?;
     Some(octet_numbers::be32(survey.area, value.at))
 }

@@ -23,7 +23,7 @@ fn matched(t: &mut [u8], reply: &mut [u8], request: &Request, secret: &[u8], ske
     ensures t_after { t.new ≡ table_as request.now.packet.bytes.now t.old result }
     ensures reply_after { reply.new ≡ reply_as secret.now request.now.packet.bytes.now reply.old result }
 {
-    let criteria = das_effects::criteria(&request.survey.noted);
+    let criteria = das_effects::criteria(request.survey.noted);
     let marks = table_match::mark_all(t, request.survey.area, &criteria);
     das_answer::commit(t, &marks, reply, request, secret, skew)
 }
@@ -35,7 +35,9 @@ pub fn signed(t: &mut [u8], gate: &Gate, reply: &mut [u8], packet: Packet, clock
     ensures t_after { t.new ≡ table_as packet.entry.bytes.now t.old result }
     ensures reply_after { reply.new ≡ reply_as gate.now.secret.now packet.entry.bytes.now reply.old result }
 {
-    let (judged, request) = das_judge::judge(true, packet, gate, clock, &mut *reply);
+    let mut noted = [attr_survey::NONE; 256];
+    let (judged, request) =
+        das_judge::judge(true, packet, gate, clock, &mut *reply, &mut noted);
     match judged {
         Err(answer) => answer,
         Ok(skew) => matched(t, reply, &request, gate.secret, skew),

@@ -9,6 +9,7 @@ ghost use Rattle.packet_form.specs.Discards.{form_of};
 ghost use Rattle.rule_verdict.specs.Verdict.{check_verdict};
 ghost use Rattle.das_judge.specs.Judged.{judged_as, reply_judged};
 
+use attr_survey::Noted;
 use das_answer::Answer;
 use nas_settings::Gate;
 use packet_form::Packet;
@@ -38,20 +39,22 @@ fn judged(
 }
 
 // Judges a request that meets none of D1 to D3, signed saying that D4 does not apply: its skew where it passed, else its answer; and the request, with
-// one pass over its attributes.
+// one pass over its attributes, whose notes stand where the caller lends an array.
+#[inline(always)]
 pub fn judge<'a>(
     signed: bool,
     packet: Packet<'a>,
     gate: &Gate,
     clock: u32,
     reply: &mut [u8],
+    noted: &'a mut [Noted; 256],
 ) -> (Result<i64, Answer>, Request<'a>)
     requires { (form_of packet.bytes.now ≡ None) × (4096 ≤ length reply.old) }
     ensures value { result.0 ≡ judged_as packet.entry.bytes.now (check_verdict (gate_settings gate.now) «signed» packet.entry.bytes.now clock) }
     ensures reply_after { reply.new ≡ reply_judged gate.now.secret.now packet.entry.bytes.now reply.old result.0 }
     ensures request { result.1.packet ≡ packet.entry }
 {
-    let request = Request::of(packet);
+    let request = Request::of(packet, noted);
     let answer = judged(signed, &request, gate, clock, reply);
     (answer, request)
 }

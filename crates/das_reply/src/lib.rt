@@ -22,7 +22,7 @@ pub fn write_reply(
     ensures value { result ≡ reply_length request.now.packet.bytes.now cause }
 {
     let auth = request.packet.authenticator();
-    let present = attr_lookup::has(&request.survey.noted, MESSAGE_AUTHENTICATOR);
+    let present = attr_lookup::has(request.survey.noted, MESSAGE_AUTHENTICATOR);
     let body = das_reply_parts::put_body(&mut *reply, &request.survey, cause);
     let e = packet_write::put_room(&mut *reply, body, present);
     das_reply_parts::put_head(&mut *reply, &request.packet, cause, e, &auth);

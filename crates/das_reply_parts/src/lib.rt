@@ -32,9 +32,9 @@ fn put_state(t: &mut [u8], to: usize, survey: &Survey) -> usize
     ensures t_after { t.new ≡ write t.old to (state_part survey.now.area.now) }
     ensures value { result ≡ to + length (state_part survey.now.area.now) }
 {
-    if attr_lookup::has(&survey.noted, STATE) {
+    if attr_lookup::has(survey.noted, STATE) {
         let size = survey.noted[usize::from(STATE)].size;
-        let at = attr_lookup::start_of(&survey.noted, STATE);
+        let at = attr_lookup::start_of(survey.noted, STATE);
         let a = Attribute {
             kind: STATE,
             at,

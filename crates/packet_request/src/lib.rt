@@ -6,7 +6,7 @@ ghost use Rattle.attr_survey.specs.Survey.{Flagged};
 ghost use Rattle.packet_form.specs.Packet.{code_of, area_of};
 ghost use Rattle.packet_form.specs.Discards.{form_of};
 
-use attr_survey::Survey;
+use attr_survey::{Noted, Survey};
 use packet_form::Packet;
 
 // A packet that meets none of D1 to D3, and the survey of its attributes.
@@ -19,14 +19,15 @@ pub struct Request<'a> {
 }
 
 impl<'a> Request<'a> {
-    // The request in a packet that meets none of D1 to D3.
-    pub fn of(packet: Packet<'a>) -> Request<'a>
+    // The request in a packet that meets none of D1 to D3. What its survey notes stands where the caller lends it.
+    #[inline(always)]
+    pub fn of(packet: Packet<'a>, noted: &'a mut [Noted; 256]) -> Request<'a>
         requires { form_of packet.bytes.now ≡ None }
         ensures packet_value { result.packet ≡ packet.entry }
         ensures code_value { result.survey.code ≡ code_of packet.entry.bytes.now }
         ensures flagged { Flagged result.survey.area.now result.survey.code result.survey.flags }
     {
-        let survey = Survey::of(packet.area(), packet.code());
+        let survey = Survey::of(packet.area(), packet.code(), noted);
         Request { packet, survey }
     }
 }

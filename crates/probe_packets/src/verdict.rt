@@ -5,19 +5,23 @@ ghost use Rattle.probe_packets.specs.Told.{verdict, number_of, skew_of, stamped_
 
 use nas_settings::Gate;
 use packet_request::Request;
+use refusals::Discard;
 use rule_verdict::Verdict;
 
 // D1 to D6 and causes 1 to 6 of a packet, as `das_handle::handle` asks for them before any session.
-#[tactic(auto, unfolding(crate::specs::Told::verdict, rule_verdict::specs::Verdict::verdict_of, rule_verdict::specs::Discards::signed_by))]
+#[tactic(auto, unfolding(crate::specs::Told::verdict, rule_verdict::specs::Verdict::verdict_of, rule_verdict::specs::Verdict::check_verdict, rule_verdict::specs::Discards::signed_by))]
 fn judge(p: &[u8], gate: &Gate, clock: u32) -> Verdict
     ensures { result ≡ verdict (gate_settings gate.now) p.now clock }
 {
     match packet_form::form(p) {
         Err(d) => Verdict::Discarded(d),
         Ok(packet) => {
-            let signed = packet_auth::request_signed(packet.bytes, packet.length, gate.secret);
-            let request = Request::of(packet);
-            Verdict::of(signed, &request.packet, &request.survey, gate, clock)
+            if !packet_auth::request_signed(packet.bytes, packet.length, gate.secret) {
+                return Verdict::Discarded(Discard::Authenticator);
+            }
+            let mut noted = [attr_survey::NONE; 256];
+            let request = Request::of(packet, &mut noted);
+            Verdict::of(true, &request.packet, &request.survey, gate, clock)
         }
     }
 }

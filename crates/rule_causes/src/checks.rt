@@ -9,17 +9,17 @@ use attr_types::NAS_IP_ADDRESS;
 
 // 403: the first attribute of this type has another value than our own.
 pub fn other_value(survey: &Survey, kind: u8, own: &[u8]) -> bool
-    ensures { result ≡ differs_at survey.now.area.now survey.now.noted kind own.now }
+    ensures { result ≡ differs_at survey.now.area.now survey.now.noted.now kind own.now }
 {
-    if has(&survey.noted, kind) {
-        return !octet_runs::equal(value_of(survey.area, &survey.noted, kind), own);
+    if has(survey.noted, kind) {
+        return !octet_runs::equal(value_of(survey.area, survey.noted, kind), own);
     }
     false
 }
 
 // 403: the NAS-IP-Address is not ours.
 pub fn other_address(survey: &Survey, nas_ip: u32) -> bool
-    ensures { result ≡ differs_at survey.now.area.now survey.now.noted 4 (be_bytes 4 nas_ip) }
+    ensures { result ≡ differs_at survey.now.area.now survey.now.noted.now 4 (be_bytes 4 nas_ip) }
 {
     let mut own = [0u8; 4];
     octet_numbers::put_be32(&mut own, 0, nas_ip);

@@ -30,7 +30,7 @@ fn later_cause(survey: &Survey, gate: &Gate) -> Option<Cause>
     if missing(survey) {
         return Some(Cause::MissingAttribute);
     }
-    if 34 < first_of(&survey.noted, FILTER_ID).size {
+    if 34 < first_of(survey.noted, FILTER_ID).size {
         return Some(Cause::ResourcesUnavailable);
     }
     None

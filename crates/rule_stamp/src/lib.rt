@@ -15,7 +15,7 @@ pub fn stamp_of(survey: &Survey) -> Option<u32>
     let first = survey.noted[EVENT_TIMESTAMP as usize];
     if first.number == 1 {
         if first.size == 6 {
-            let end = attr_lookup::end_of(&survey.noted, EVENT_TIMESTAMP);
+            let end = attr_lookup::end_of(survey.noted, EVENT_TIMESTAMP);
             return Some(octet_numbers::be32(survey.area, end - 4));
         }
         return None;

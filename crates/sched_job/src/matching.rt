@@ -16,7 +16,7 @@ fn matches(packet: &Packet, survey: &Survey, t: &[u8], k: usize) -> bool
     requires once { found (first_repeated none (attributes (area_of packet.now.bytes.now))) ≡ false }
     ensures { result ≡ matches_in (area_of packet.now.bytes.now) t.now k }
 {
-    let criteria = das_effects::criteria(&survey.noted);
+    let criteria = das_effects::criteria(survey.noted);
     table_match::match_slot(t, k, survey.area, &criteria)
 }
 

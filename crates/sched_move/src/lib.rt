@@ -41,7 +41,8 @@ fn at_slot(j: Job, k: usize, q: &[u8], gate: &Gate, t: &mut [u8], reply: &mut [u
     ensures t_after { t.new ≡ slot_table (gate_settings gate.now) j k q.now t.old }
     ensures reply_after { reply.new ≡ reply_after gate.now.secret.now q.now reply.old result.ending }
 {
-    match sched_reread::passed(j.length, q, gate) {
+    let mut noted = [attr_survey::NONE; 256];
+    match sched_reread::passed(j.length, q, gate, &mut noted) {
         None => sched_job::done(Answer::Discarded(Discard::Length)),
         Some(shown) => match_or_commit(j, k, &shown, gate.secret, t, reply),
     }

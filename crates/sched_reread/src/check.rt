@@ -24,6 +24,7 @@ pub fn check(
         return Err(Answer::Discarded(Discard::Length));
     };
     let signed = packet_words::is_authenticator(words, q);
-    let (judged, _) = das_judge::judge(signed, packet, gate, clock, reply);
+    let mut noted = [attr_survey::NONE; 256];
+    let (judged, _) = das_judge::judge(signed, packet, gate, clock, reply, &mut noted);
     judged
 }

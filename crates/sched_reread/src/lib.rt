@@ -13,7 +13,7 @@ ghost use Rattle.rule_causes.specs.Causes.{cause_of};
 ghost use Rattle.packet_form.specs.Discards.{form_of};
 ghost use Rattle.sched_reread.specs.Reread.{holds, odd_mac, holds_passed};
 
-use attr_survey::Survey;
+use attr_survey::{Noted, Survey};
 use attr_types::MESSAGE_AUTHENTICATOR;
 use nas_settings::Gate;
 use packet_form::Packet;
@@ -35,7 +35,7 @@ pub fn held(n: usize, q: &[u8]) -> Option<Packet<'_>>
 
 // The first type 80, if any, has length 18.
 fn plain_mac(survey: &Survey) -> bool
-    ensures { result ≡ not (seen_at survey.now.noted 80 && not (eqb (noted_at survey.now.noted 80).size 18)) }
+    ensures { result ≡ not (seen_at survey.now.noted.now 80 && not (eqb (noted_at survey.now.noted.now 80).size 18)) }
 {
     // A constant as an index, by a cast: with usize::from the proof did not close.
     let first = survey.noted[MESSAGE_AUTHENTICATOR as usize];
@@ -57,11 +57,11 @@ fn unobjected(survey: &Survey, gate: &Gate) -> bool
 }
 
 // The store read again for Match and Commit. The secret plays no part in it.
-pub fn passed<'a>(n: usize, q: &'a [u8], gate: &Gate) -> Option<Shown<'a>>
+pub fn passed<'a>(n: usize, q: &'a [u8], gate: &Gate, noted: &'a mut [Noted; 256]) -> Option<Shown<'a>>
     ensures { MatchOption result ((secret : List ℕ) → holds_passed (settings secret gate.now.nas_ip gate.now.nas_id.now) n q.now ≡ false) (λ x. (x.request.packet.bytes.now ≡ q.now) × ((secret : List ℕ) → holds_passed (settings secret gate.now.nas_ip gate.now.nas_id.now) n q.now ≡ true)) }
 {
     let packet = held(n, q)?;
-    let request = Request::of(packet);
+    let request = Request::of(packet, noted);
     let stamp = rule_stamp::stamp_of(&request.survey)?;
     if unobjected(&request.survey, gate) {
         return Some(Shown { request, stamp });
