@@ -18,7 +18,21 @@ ghost use Rattle.c_numbers.specs.Numbers.{told, answer_told, written_number, wri
 use c_numbers::numbers::Told;
 use nas_settings::Gate;
 
-// Writes what C is told of an answer where C lends the numbers, and gives back the answer's own.
+// The numbers that C lends, beside this answer.
+fn lent(answer: u32, changed: &u32, size: &u32, skew: &i64, stamped: &u32) -> Told
+    ensures { result ≡ told answer changed.now size.now skew.now stamped.now }
+{
+    Told {
+        answer,
+        changed: *changed,
+        length: *size,
+        skew: *skew,
+        stamped: *stamped,
+    }
+}
+
+// Writes what C is told of an answer where C lends the numbers, and gives back the answer's own. What stands there already is not written: a refusal touches
+// none of them.
 fn told_to(
     numbers: Told,
     changed: &mut u32,
@@ -28,10 +42,12 @@ fn told_to(
 ) -> u32
     ensures { told result changed.new size.new skew.new stamped.new ≡ numbers }
 {
-    *changed = numbers.changed;
-    *size = numbers.length;
-    *skew = numbers.skew;
-    *stamped = numbers.stamped;
+    if lent(numbers.answer, changed, size, skew, stamped) != numbers {
+        *changed = numbers.changed;
+        *size = numbers.length;
+        *skew = numbers.skew;
+        *stamped = numbers.stamped;
+    }
     numbers.answer
 }
 
@@ -60,13 +76,7 @@ pub extern "C" fn fbk_handle(
         nas_id,
     };
     let a = das_handle::handle(table, &gate, reply, packet, clock);
-    let old = Told {
-        answer: 0,
-        changed: *changed,
-        length: *size,
-        skew: *skew,
-        stamped: *stamped,
-    };
+    let old = lent(0, changed, size, skew, stamped);
     let told = c_numbers::numbers::tell(a, old);
     told_to(told, changed, size, skew, stamped)
 }

@@ -6,7 +6,6 @@ ghost use Rattle.sched_rows.specs.Left.{step_left};
 ghost use Rattle.c_numbers.specs.Numbers.{told};
 ghost use Rattle.c_told.specs.Told.{told_by};
 
-use c_numbers::numbers::Told;
 use sched_rows::{Made, Rows};
 
 #[unsafe(no_mangle)]
@@ -47,13 +46,7 @@ pub extern "C" fn fbk_step_lent(
         nas_id,
         nas_id_size: label,
     };
-    let old = Told {
-        answer: 0,
-        changed: *changed,
-        length: *bytes,
-        skew: *skew,
-        stamped: *stamped,
-    };
+    let old = crate::lent(0, changed, bytes, skew, stamped);
     let told = sched_step::step(&mut rows, &made, job as usize, table, reply, store, old);
     crate::told_to(told, changed, bytes, skew, stamped)
 }

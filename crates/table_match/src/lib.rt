@@ -1,13 +1,12 @@
 // Which slots a request names: whether one of them matches, and the marks of all.
 #![tactic(auto)]
 
-ghost use Rattle.std.specs.Prelude.{◌≡◌, true, length};
+ghost use Rattle.std.specs.Prelude.{◌≡◌};
 ghost use Rattle.table_slots.specs.Slot.{slot_count};
 ghost use Rattle.table_slots.specs.Marks.{marks_after};
-ghost use Rattle.table_criteria.specs.Meets.{all, listed, meets, matches, matches_at};
-ghost use Rattle.table_criteria.specs.Passes.{passes};
+ghost use Rattle.table_criteria.specs.Meets.{all, listed, meets, matches_at};
 
-use table_criteria::{Criterion, Sieve, compare, first};
+use table_criteria::{Criterion, compare, first};
 
 // Whether the slot s meets every criterion.
 #[inline(always)]
@@ -33,30 +32,31 @@ pub fn match_slot(t: &[u8], k: usize, area: &[u8], c: &[Option<Criterion>]) -> b
     table_slots::has_mark(s) && meets_all(area, s, c) && table_slots::is_live(s)
 }
 
-// Whether the whole slot s is live and meets every criterion, where those that do pass the sieve, which spares most others the comparison.
-#[inline(always)]
-#[tactic(auto, using(table_slots::proofs::Live::unmarked), unfolding(table_criteria::specs::Meets::matches))]
-fn match_sieved(s: &[u8], sieve: Option<Sieve>, area: &[u8], c: &[Option<Criterion>]) -> bool
-    requires { (length s.now ≡ 192) × (matches area.now (listed c.now) s.now ≡ true → passes sieve s.now ≡ true) }
-    ensures { result ≡ matches area.now (listed c.now) s.now }
-{
-    table_slots::has_mark(s)
-        && first::passes(s, sieve)
-        && meets_all(area, s, c)
-        && table_slots::is_live(s)
-}
-
-// The marks of all slots: 1 for each that is live and meets every criterion. The sieve is made once.
+// The marks of all slots: 1 for each that is live and meets every criterion. The sieve, made once, spares most others the comparison.
 // Not inlined: the walk keeps to the same few instructions a slot wherever it is called.
 #[inline(never)]
+#[tactic(auto, using(table_slots::proofs::Live::unmarked, table_slots::proofs::Marked::marks_skip), unfolding(table_criteria::specs::Meets::matches))]
 pub fn mark_all(t: &[u8], area: &[u8], c: &[Option<Criterion>]) -> [u8; 64]
     ensures { result ≡ marks_after (matches_at area.now (listed c.now) t.now) (slot_count t.now) }
 {
     let sieve = first::sieve_of(area, c);
     let mut marks = [0u8; 64];
     for k in 0..table_slots::slot_count(t) {
-        if match_sieved(table_slots::whole_slot(t, k), sieve, area, c) {
-            marks[k] = 1;
+        let s = table_slots::whole_slot(t, k);
+        if !table_slots::has_mark(s) || !first::passes(s, sieve) {
+            continue;
+        }
+        'slot: {
+            for asked in c {
+                if let Some(one) = asked
+                    && !compare::meets_one(area, s, one)
+                {
+                    break 'slot;
+                }
+            }
+            if table_slots::is_live(s) {
+                marks[k] = 1;
+            }
         }
     }
     marks

@@ -1,19 +1,27 @@
--- `table_match::mark_all` meets its contract: the marks are those of the slots passed.
+-- `table_match::mark_all` meets its contract: the marks are those of the slots passed, and the criteria that are left decide the slot at hand.
 use Rattle.table_slots.proofs.Count.{counted_is, slot_lies}
-use Rattle.table_slots.proofs.Marked.{marks_start, marks_skip, marks_more}
+use Rattle.table_slots.proofs.Marked.{marks_start}
+use Rattle.table_match.proofs.Turns.{turn_fails, turn_dead, turn_meets}
 use borrow.Author.Rules.{rules}
 use native.Mathlib.Omega.{arith}
 use Rattle.table_match.proofs.mark_all.Goals as goal
-use Rattle.table_match.proofs.mark_all.Goals.{then-match_sieved, else-match_sieved}
+use Rattle.table_match.proofs.mark_all.Goals.{then-loop-asked-test+in-Some+then-not-meets_one}
+use Rattle.table_match.proofs.mark_all.Goals.{else-loop-asked-test+then-is_live, else-loop-asked-test+else-is_live}
 
 pub loop-k-init : goal.loop-k-init
 loop-k-init c = search (rules, marks_start)
 
-pub whole_slot-requires : goal.whole_slot-requires
-whole_slot-requires c = slot_lies _ _ _ c.slot_count-k-end.ensures c.loop-k-test.true
+pub whole_slot-s-requires : goal.whole_slot-s-requires
+whole_slot-s-requires c = slot_lies _ _ _ c.slot_count-k-end.ensures c.loop-k-test.true
 
 pub bounds-marks-k : goal.bounds-marks-k
 bounds-marks-k c = let n = counted_is _ _ c.slot_count-k-end.ensures in omega arith
 
+-- a criterion fails, or all are met and the slot is live or not
 pub loop-k-preserved : goal.loop-k-preserved
-loop-k-preserved c = elim c.if-match_sieved.branch [ then-match_sieved w ↦ search (rules, marks_more) | else-match_sieved w ↦ search (rules, marks_skip) ]
+loop-k-preserved c =
+    elim c.loop-asked-test.branch [
+      | then-loop-asked-test+in-Some+then-not-meets_one w ↦ search (rules, turn_fails)
+      | else-loop-asked-test+then-is_live w ↦ search (rules, turn_meets)
+      | else-loop-asked-test+else-is_live w ↦ search (rules, turn_dead)
+    ]
