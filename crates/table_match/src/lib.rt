@@ -35,7 +35,6 @@ pub fn match_slot(t: &[u8], k: usize, area: &[u8], c: &[Option<Criterion>]) -> b
 // The marks of all slots: 1 for each that is live and meets every criterion. The sieve, made once, spares most others the comparison.
 // Not inlined: the walk keeps to the same few instructions a slot wherever it is called.
 #[inline(never)]
-#[tactic(auto, using(table_slots::proofs::Live::unmarked, table_slots::proofs::Marked::marks_skip), unfolding(table_criteria::specs::Meets::matches))]
 pub fn mark_all(t: &[u8], area: &[u8], c: &[Option<Criterion>]) -> [u8; 64]
     ensures { result ≡ marks_after (matches_at area.now (listed c.now) t.now) (slot_count t.now) }
 {
@@ -43,10 +42,15 @@ pub fn mark_all(t: &[u8], area: &[u8], c: &[Option<Criterion>]) -> [u8; 64]
     let mut marks = [0u8; 64];
     for k in 0..table_slots::slot_count(t) {
         let s = table_slots::whole_slot(t, k);
-        if !table_slots::has_mark(s) || !first::passes(s, sieve) {
-            continue;
-        }
+        // The first test that fails leaves for the next slot, always by the block's end: a `continue` among them costs the sieve its registers.
         'slot: {
+            if !table_slots::has_mark(s) {
+                break 'slot;
+            }
+            let passed = first::passes(s, sieve);
+            if !passed {
+                break 'slot;
+            }
             for asked in c {
                 if let Some(one) = asked
                     && !compare::meets_one(area, s, one)
