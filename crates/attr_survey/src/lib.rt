@@ -95,7 +95,8 @@ fn with_vendors(s: &[u8], code: u8, noted: &mut [Noted; 256]) -> Flags
 }
 
 impl<'a> Survey<'a> {
-    // One pass over the area of a request of this code. What it notes stands where the caller lends it, so that it is not copied when a survey is handed on.
+    // One pass over the area of a request of this code. It notes where the caller lends an array, so that nothing large is copied where a survey is
+    // handed on. Inlined, so that the array is not cleared twice.
     #[inline(always)]
     #[tactic(auto, unfolding(crate::specs::Noted::blank))]
     pub fn of(area: &'a [u8], code: u8, noted: &'a mut [Noted; 256]) -> Survey<'a>

@@ -36,8 +36,7 @@ pub fn signed(t: &mut [u8], gate: &Gate, reply: &mut [u8], packet: Packet, clock
     ensures reply_after { reply.new ≡ reply_as gate.now.secret.now packet.entry.bytes.now reply.old result }
 {
     let mut noted = [attr_survey::NONE; 256];
-    let (judged, request) =
-        das_judge::judge(true, packet, gate, clock, &mut *reply, &mut noted);
+    let (judged, request) = das_judge::judge(true, packet, gate, clock, &mut *reply, &mut noted);
     match judged {
         Err(answer) => answer,
         Ok(skew) => matched(t, reply, &request, gate.secret, skew),

@@ -57,7 +57,12 @@ fn unobjected(survey: &Survey, gate: &Gate) -> bool
 }
 
 // The store read again for Match and Commit. The secret plays no part in it.
-pub fn passed<'a>(n: usize, q: &'a [u8], gate: &Gate, noted: &'a mut [Noted; 256]) -> Option<Shown<'a>>
+pub fn passed<'a>(
+    n: usize,
+    q: &'a [u8],
+    gate: &Gate,
+    noted: &'a mut [Noted; 256],
+) -> Option<Shown<'a>>
     ensures { MatchOption result ((secret : List ℕ) → holds_passed (settings secret gate.now.nas_ip gate.now.nas_id.now) n q.now ≡ false) (λ x. (x.request.packet.bytes.now ≡ q.now) × ((secret : List ℕ) → holds_passed (settings secret gate.now.nas_ip gate.now.nas_id.now) n q.now ≡ true)) }
 {
     let packet = held(n, q)?;
