@@ -1,14 +1,14 @@
 -- The loops that copy: what they have made of the list l after each turn is a write of so many bytes, so a turn adds its bytes after them.
 -- Assumes nothing.
-use mathlib.Core.Path.{◌≡◌, sym, ap, ◌∙◌}
+use mathlib.Core.Path.{◌≡◌, refl, sym, ap, ◌∙◌}
 use mathlib.Core.List.{List, [], ◌∷◌, ◌++◌}
-use Prim.Native.Nat.{ℕ, ◌+◌, ◌-◌, ◌*◌, ◌/◌, ◌≤◌, ◌<◌}
-use native.Mathlib.Numerals.{add-one}
+use Prim.Native.Nat.{ℕ, suc, ◌+◌, ◌-◌, ◌*◌, ◌/◌, ◌≤◌, ◌<◌}
+use native.Mathlib.Numerals.{add-one, towards_suc}
 use native.Mathlib.Omega.{arith}
 use lib.ListN.{length, get_or, take, drop, set}
-use lib.Seq.{take_all, take-length, take-suc, take-add, length-take-le}
+use lib.Seq.{drop-cons, take_all, take-length, take-suc, take-add, length-take-le}
 use Rattle.octet_numbers.specs.Runs.{part, write}
-use Rattle.octet_numbers.proofs.Write.{write_nil, write_one, write-append}
+use Rattle.octet_numbers.proofs.Write.{write_nil, write_one, write-append, write_then}
 
 -- ---- v goes to place i of l: t is what has been made of l
 
@@ -58,3 +58,38 @@ pub words_rest : (t t' l : List ℕ) (i k : ℕ) (v : List ℕ) → t ≡ write 
 words_rest t t' l i k v e g h f =
     let z : length v / 8 ≡ k = omega arith in
     copy_rest t t' l i (length v / 8 * 8) v (rw z e) g (omega arith)
+
+-- ---- a word of eight bytes, in two writes of four
+
+-- the first byte of a part
+part_cons : (v : List ℕ) (j n : ℕ) → j < length v → part j (suc n) v ≡ get_or v j 0 ∷ part (suc j) n v
+unfolding part
+part_cons v j n h = rw (drop-cons v j 0 h)
+
+part_none : (v : List ℕ) (j : ℕ) → part j 0 v ≡ []
+unfolding part
+part_none v j = refl
+
+part_eight : (v : List ℕ) (j : ℕ) → j + 8 ≤ length v
+    → part j 8 v
+    ≡ get_or v j 0 ∷ get_or v (j + 1) 0 ∷ get_or v (j + 2) 0 ∷ get_or v (j + 3) 0
+    ∷ get_or v (j + 4) 0 ∷ get_or v (j + 5) 0 ∷ get_or v (j + 6) 0 ∷ get_or v (j + 7) 0 ∷ []
+part_eight v j h =
+    rw (
+      part_cons v j 7 (omega arith),
+      part_cons v (suc j) 6 (omega arith),
+      part_cons v (suc (suc j)) 5 (omega arith),
+      part_cons v (suc (suc (suc j))) 4 (omega arith),
+      part_cons v (suc (suc (suc (suc j)))) 3 (omega arith),
+      part_cons v (suc (suc (suc (suc (suc j))))) 2 (omega arith),
+      part_cons v (suc (suc (suc (suc (suc (suc j)))))) 1 (omega arith),
+      part_cons v (suc (suc (suc (suc (suc (suc (suc j))))))) 0 (omega arith),
+      part_none,
+    )
+    (simp towards_suc)
+
+pub store_eight : (t t' l : List ℕ) (i : ℕ) (v : List ℕ) (j : ℕ)
+    → t ≡ write l i (get_or v j 0 ∷ get_or v (j + 1) 0 ∷ get_or v (j + 2) 0 ∷ get_or v (j + 3) 0 ∷ [])
+    → t' ≡ write t (i + 4) (get_or v (j + 4) 0 ∷ get_or v (j + 5) 0 ∷ get_or v (j + 6) 0 ∷ get_or v (j + 7) 0 ∷ [])
+    → j + 8 ≤ length v → t' ≡ write l i (part j 8 v)
+store_eight t t' l i v j e g h = write_then t t' l i (i + 4) _ _ e g refl ∙ ap (write l i) (sym (part_eight v j h))

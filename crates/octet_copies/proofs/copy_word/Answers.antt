@@ -1,8 +1,7 @@
--- `octet_copies::copy_word` meets its contract: the part of t that the eight bytes were copied over holds them.
+-- `octet_copies::copy_word` meets its contract: two writes of four bytes are one of the eight bytes read.
 use borrow.Author.Rules.{rules}
-use Rattle.octet_numbers.proofs.Part.{part_of, length_part}
-use Rattle.octet_numbers.proofs.Write.{copied_over}
+use Rattle.octet_copies.proofs.Loops.{store_eight}
 use Rattle.octet_copies.proofs.copy_word.Goals as goal
 
 pub returns : goal.returns
-returns c = search (rules, copied_over, part_of, length_part)
+returns c = search (rules, store_eight)
