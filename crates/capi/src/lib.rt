@@ -8,7 +8,7 @@ mod open;
 mod start;
 mod step;
 
-ghost use Rattle.std.specs.Prelude.{◌≡◌, not, eqb};
+ghost use Rattle.std.specs.Prelude.{◌≡◌, cond, not, eqb, pos};
 ghost use Rattle.nas_settings.specs.Settings.{settings};
 ghost use Rattle.das_handle.specs.Handle.{handle_answer, handle_table, handle_reply};
 ghost use Rattle.dac_write.specs.Writer.{draft, write_answer, write_output};
@@ -18,21 +18,18 @@ ghost use Rattle.c_numbers.specs.Numbers.{told, answer_told, written_number, wri
 use c_numbers::numbers::Told;
 use nas_settings::Gate;
 
-// The numbers that C lends, beside this answer.
-fn lent(answer: u32, changed: &u32, size: &u32, skew: &i64, stamped: &u32) -> Told
-    ensures { result ≡ told answer changed.now size.now skew.now stamped.now }
+// What is told before an answer is known. A refusal gives it back with a number of its own; no other answer has a stamp of 2.
+fn untold() -> Told
+    ensures { result ≡ told 0 0 0 (pos 0) 2 }
 {
     Told {
-        answer,
-        changed: *changed,
-        length: *size,
-        skew: *skew,
-        stamped: *stamped,
+        stamped: 2,
+        ..Told::alone(0)
     }
 }
 
-// Writes what C is told of an answer where C lends the numbers, and gives back the answer's own. What stands there already is not written: a refusal touches
-// none of them.
+// Writes the numbers beside an answer where C lends them, and gives back the answer's own. What C lends is not read, as C may not have set it,
+// and not written after a refusal.
 fn told_to(
     numbers: Told,
     changed: &mut u32,
@@ -40,9 +37,9 @@ fn told_to(
     skew: &mut i64,
     stamped: &mut u32,
 ) -> u32
-    ensures { told result changed.new size.new skew.new stamped.new ≡ numbers }
+    ensures { told result changed.new size.new skew.new stamped.new ≡ cond (eqb numbers.stamped 2) (told numbers.answer changed.old size.old skew.old stamped.old) numbers }
 {
-    if lent(numbers.answer, changed, size, skew, stamped) != numbers {
+    if numbers.stamped != 2 {
         *changed = numbers.changed;
         *size = numbers.length;
         *skew = numbers.skew;
@@ -76,9 +73,8 @@ pub extern "C" fn fbk_handle(
         nas_id,
     };
     let a = das_handle::handle(table, &gate, reply, packet, clock);
-    let old = lent(0, changed, size, skew, stamped);
-    let told = c_numbers::numbers::tell(a, old);
-    told_to(told, changed, size, skew, stamped)
+    let numbers = c_numbers::numbers::tell(a, untold());
+    told_to(numbers, changed, size, skew, stamped)
 }
 
 // Writes a request.

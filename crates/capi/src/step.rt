@@ -46,7 +46,7 @@ pub extern "C" fn fbk_step_lent(
         nas_id,
         nas_id_size: label,
     };
-    let old = crate::lent(0, changed, bytes, skew, stamped);
+    let old = crate::untold();
     let told = sched_step::step(&mut rows, &made, job as usize, table, reply, store, old);
     crate::told_to(told, changed, bytes, skew, stamped)
 }
