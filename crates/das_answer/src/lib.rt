@@ -8,8 +8,7 @@ ghost use Rattle.attr_types.specs.Types.{misfitting};
 ghost use Rattle.rule_causes.specs.declared.cause.Cause.TheVariants.{SessionNotFound};
 ghost use Rattle.packet_form.specs.Packet.{area_of};
 ghost use Rattle.das_reply_parts.specs.Reply.{reply_length, reply_of};
-ghost use Rattle.das_answer.specs.declared.Answer.TheVariants.{Nak};
-ghost use Rattle.das_answer.specs.Replies.{reply_as};
+ghost use Rattle.das_answer.specs.Replies.{reply_as, nak_as};
 ghost use Rattle.das_answer.specs.Commit.{commit_answer, commit_table};
 
 use packet_request::Request;
@@ -27,14 +26,23 @@ pub enum Answer {
     Ack(usize, i64, usize),
 }
 
-// A NAK: its reply is written.
-pub fn nak(reply: &mut [u8], request: &Request, secret: &[u8], cause: Cause, skew: i64) -> Answer
-    requires { (reply_length request.now.packet.bytes.now (Some cause) ≤ 4096) × (4096 ≤ length reply.old) }
-    ensures value { result ≡ Nak cause skew (reply_length request.now.packet.bytes.now (Some cause)) }
-    ensures reply_after { reply.new ≡ write reply.old 0 (reply_of secret.now request.now.packet.bytes.now (Some cause)) }
+// A NAK: its reply is written. Without a cause the reply has no Error-Cause and is an ACK's.
+pub fn nak(
+    reply: &mut [u8],
+    request: &Request,
+    secret: &[u8],
+    cause: Option<Cause>,
+    skew: i64,
+) -> Answer
+    requires { (reply_length request.now.packet.bytes.now cause ≤ 4096) × (4096 ≤ length reply.old) }
+    ensures value { result ≡ nak_as cause skew (reply_length request.now.packet.bytes.now cause) }
+    ensures reply_after { reply.new ≡ write reply.old 0 (reply_of secret.now request.now.packet.bytes.now cause) }
 {
-    let size = das_reply::write_reply(reply, request, secret, Some(cause));
-    Answer::Nak(cause, skew, size)
+    let size = das_reply::write_reply(reply, request, secret, cause);
+    match cause {
+        Some(cause) => Answer::Nak(cause, skew, size),
+        None => Answer::Ack(0, skew, size),
+    }
 }
 
 // Cause 7 where no marked session is live, else all of them changed and an ACK.
@@ -56,7 +64,7 @@ pub fn commit(
     let change = das_effects::change(request.packet.code(), &request.survey);
     let changed = table_change::change_marked(t, request.survey.area, marks, change);
     if changed == 0 {
-        return nak(reply, request, secret, Cause::SessionNotFound, skew);
+        return nak(reply, request, secret, Some(Cause::SessionNotFound), skew);
     }
     let size = das_reply::write_reply(reply, request, secret, None);
     Answer::Ack(changed, skew, size)

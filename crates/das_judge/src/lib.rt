@@ -33,7 +33,13 @@ fn judged(
     match Verdict::of(signed, &request.packet, &request.survey, gate, clock) {
         Verdict::Discarded(d) => Err(Answer::Discarded(d)),
         Verdict::Stale(skew) => Err(Answer::Stale(skew)),
-        Verdict::Nak(cause, skew) => Err(das_answer::nak(reply, request, gate.secret, cause, skew)),
+        Verdict::Nak(cause, skew) => Err(das_answer::nak(
+            reply,
+            request,
+            gate.secret,
+            Some(cause),
+            skew,
+        )),
         Verdict::Passed(skew) => Ok(skew),
     }
 }
