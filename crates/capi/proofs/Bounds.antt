@@ -1,6 +1,6 @@
--- The numbers of the handler's answers fit C's: at most 64 sessions and 4,096 bytes.
+-- The numbers of the handler's answers fit C's: at most 64 sessions and 4,096 bytes. What is told of an answer is told of the definition's.
 -- Assumes nothing.
-use mathlib.Core.Path.{◌≡◌, refl}
+use mathlib.Core.Path.{◌≡◌, refl, ◌∙◌}
 use mathlib.Core.List.{List}
 use Prim.Native.Nat.{ℕ}
 use native.Mathlib.Omega.{arith}
@@ -10,6 +10,7 @@ use Rattle.das_answer.specs.declared.Answer.TheVariants as A
 use Rattle.das_handle.specs.Handle.{handle_answer}
 use Rattle.das_answer.specs.Replied.{reply_size}
 use Rattle.das_handle.proofs.Bounds.{change_count, reply_most, change_few}
+use Rattle.c_numbers.specs.declared.numbers.Told.{Told}
 use Rattle.c_numbers.specs.Numbers.{alone, answer_told, Small}
 
 changed_is : (a : D.Answer) → (answer_told a (alone 0)).changed ≡ change_count a
@@ -36,3 +37,6 @@ module _ (g : Settings) (t b p : List ℕ) (clock : ℕ) (a : D.Answer) (is : a 
         few = omega (arith, changed_is (handle_answer g t b p clock), change_few g t b p clock);
         short = omega (arith, length_is (handle_answer g t b p clock), reply_most g t b p clock);
       })
+
+  pub answer-told : (v old : Told) → v ≡ answer_told a old → v ≡ answer_told (handle_answer g t b p clock) old
+  answer-told v old h = h ∙ rw is

@@ -59,6 +59,7 @@ pub fn judge<'a>(
     ensures value { result.0 ≡ judged_as packet.entry.bytes.now (check_verdict (gate_settings gate.now) «signed» packet.entry.bytes.now clock) }
     ensures reply_after { reply.new ≡ reply_judged gate.now.secret.now packet.entry.bytes.now reply.old result.0 }
     ensures request { result.1.packet ≡ packet.entry }
+    ensures code_value { result.1.survey.code ≡ code_of packet.entry.bytes.now }
 {
     let request = Request::of(packet, noted);
     let answer = judged(signed, &request, gate, clock, reply);

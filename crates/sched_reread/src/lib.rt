@@ -10,6 +10,7 @@ ghost use Rattle.attr_survey.specs.Survey.{Flagged};
 ghost use Rattle.attr_survey.specs.Noted.{noted_at, seen_at};
 ghost use Rattle.nas_settings.specs.Settings.{settings};
 ghost use Rattle.rule_causes.specs.Causes.{cause_of};
+ghost use Rattle.packet_form.specs.Packet.{code_of};
 ghost use Rattle.packet_form.specs.Discards.{form_of};
 ghost use Rattle.sched_reread.specs.Reread.{holds, odd_mac, holds_passed};
 
@@ -63,7 +64,7 @@ pub fn passed<'a>(
     gate: &Gate,
     noted: &'a mut [Noted; 256],
 ) -> Option<Shown<'a>>
-    ensures { MatchOption result ((secret : List ℕ) → holds_passed (settings secret gate.now.nas_ip gate.now.nas_id.now) n q.now ≡ false) (λ x. (x.request.packet.bytes.now ≡ q.now) × ((secret : List ℕ) → holds_passed (settings secret gate.now.nas_ip gate.now.nas_id.now) n q.now ≡ true)) }
+    ensures { MatchOption result ((secret : List ℕ) → holds_passed (settings secret gate.now.nas_ip gate.now.nas_id.now) n q.now ≡ false) (λ x. (x.request.packet.bytes.now ≡ q.now) × (x.request.survey.code ≡ code_of q.now) × ((secret : List ℕ) → holds_passed (settings secret gate.now.nas_ip gate.now.nas_id.now) n q.now ≡ true)) }
 {
     let packet = held(n, q)?;
     let request = Request::of(packet, noted);

@@ -55,9 +55,9 @@ fn stage_in(size: usize, kind: u32, place: usize, n: usize) -> sched_job::Stage
     sched_job::Stage::Free
 }
 
-impl Made<'_> {
+impl<'a> Made<'a> {
     // What the scheduler was made with: of secret and NAS-Identifier the bytes that count.
-    pub fn gate(&self) -> Gate<'_>
+    pub fn gate(&self) -> Gate<'a>
         requires { (length self.now.secret.now ≡ 64) × (length self.now.nas_id.now ≡ 32) }
         ensures value { gate_settings result ≡ settings_in self.now }
         ensures size { (length result.secret.now ≡ secret_in self.now.secret_size) × (length result.secret.now ≤ 64) }
